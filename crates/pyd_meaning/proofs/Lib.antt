@@ -1,0 +1,3 @@
+pub mod Constructs
+pub mod Scripts
+pub mod Sequencing

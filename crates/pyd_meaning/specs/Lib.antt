@@ -1,0 +1,8 @@
+pub mod Evaluation
+pub mod Operation
+pub mod Printing
+pub mod Expression
+pub mod Statement
+pub mod Module
+pub mod Laws
+pub mod Rows
