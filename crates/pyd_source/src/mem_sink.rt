@@ -1,6 +1,5 @@
 //! A sink in memory, which fails where it is told to and where it is full.
 ghost use Rattle.std.specs.Prelude.{◌≡◌, ◌↔◌, ◌⊎◌, ◌+◌, ◌-◌, ◌^◌, ◌<◌, ◌≤◌, Contains, IsTrue, IsOk, IsErr, IfOk, OnErr, is_err, length, min, take, Some, false, [], ◌++◌};
-ghost use Rattle.pyd_source.specs.Content.{Added, Lowered, Exceeds};
 ghost use Rattle.pyd_source.specs.Faults.{Counted};
 ghost use Rattle.pyd_source.specs.Script.{begun, called, told_room};
 
@@ -74,22 +73,16 @@ impl Sink for MemSink {
     fn put(&mut self, piece: &[u8]) -> Result<usize, Failed>
         ensures within { IfOk result (λ count. count ≤ length piece.now) }
         ensures some { IfOk result (λ count. 0 < length piece.now → 0 < count) }
-        ensures ok { IfOk result (λ count.
-            Added (Some self.old.held) (take count piece.now) (Some self.new.held)) }
-        ensures lowered { IfOk result (λ count.
-            Lowered (told_room self.old) count (told_room self.new)) }
+        ensures ok { IfOk result (λ count. self.new.held ≡ self.old.held ++ take count piece.now) }
+        ensures lowered { IfOk result (λ count. self.old.room ≡ self.new.room + count) }
         ensures kept { OnErr result (self.new.held ≡ self.old.held) }
-        ensures full { OnErr result (Exceeds (length piece.now) (told_room self.old)) }
+        ensures same { OnErr result (self.new.room ≡ self.old.room) }
         ensures cause { Counted self.old.script.faults self.new.script.faults (IsErr result) }
-        ensures succeeds { IsTrue false → IsOk result }
-        ensures same { false ≡ false }
 
         // It fails exactly by its room and its script, and moves as many bytes as that allows.
         ensures failed { IsErr result ↔ ((self.old.room < length piece.now)
             ⊎ Contains self.old.script.fails self.old.script.number) }
         ensures count { IfOk result (λ count. count ≡ min self.old.script.step (length piece.now)) }
-        ensures room { IfOk result (λ count. self.old.room ≡ self.new.room + count) }
-        ensures stays { OnErr result (self.new.room ≡ self.old.room) }
         ensures script { self.new.script ≡ called (is_err result) self.old.script }
     {
         let count = cmp::min(self.script.step(), piece.len());

@@ -1,6 +1,5 @@
 //! A source in memory, which fails where it is told to.
-ghost use Rattle.std.specs.Prelude.{◌≡◌, ◌↔◌, ◌-◌, ◌^◌, ◌<◌, ◌≤◌, Contains, IsErr, IfOk, OnErr, is_err, length, min, take, drop, Some, ◌++◌};
-ghost use Rattle.pyd_source.specs.Content.{Taken, AtEnd};
+ghost use Rattle.std.specs.Prelude.{◌≡◌, ◌↔◌, ◌-◌, ◌^◌, ◌<◌, ◌≤◌, Contains, IsErr, IfOk, OnErr, is_err, length, min, take, drop, Some, [], ◌++◌};
 ghost use Rattle.pyd_source.specs.Faults.{Counted};
 ghost use Rattle.pyd_source.specs.Script.{begun, called};
 
@@ -53,10 +52,9 @@ impl Source for MemSource {
 
     fn take(&mut self, buf: &mut [u8]) -> Result<usize, Failed>
         ensures within { IfOk result (λ count. count ≤ length buf.new) }
-        ensures ok { IfOk result (λ count.
-            Taken (Some self.old.left) (take count buf.new) (Some self.new.left)) }
+        ensures ok { IfOk result (λ count. self.old.left ≡ take count buf.new ++ self.new.left) }
         ensures end { IfOk result (λ count.
-            count ≡ 0 → 0 < length buf.new → AtEnd (Some self.old.left)) }
+            count ≡ 0 → 0 < length buf.new → self.old.left ≡ []) }
         ensures kept { OnErr result (self.new.left ≡ self.old.left) }
         ensures cause { Counted self.old.script.faults self.new.script.faults (IsErr result) }
 

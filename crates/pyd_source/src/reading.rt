@@ -1,6 +1,6 @@
 //! All the bytes of a source.
-ghost use Rattle.std.specs.Prelude.{◌≡◌, ◌+◌, ◌≤◌, List, vec_len, IfOk, OnOk, OnErr, IsErrOf};
-ghost use Rattle.pyd_source.specs.Content.{Taken, TookExactly, TookAtMost, Emptied};
+ghost use Rattle.std.specs.Prelude.{◌≡◌, ◌+◌, ◌<◌, ◌≤◌, length, take, vec_len, IfOk, OnOk, IsErrOf};
+ghost use Rattle.pyd_source.specs.Content.{Taken, TookExactly, TookAtMost, AtEnd, Emptied};
 ghost use Rattle.pyd_source.specs.Faults.{Counted};
 ghost use Rattle.pyd_source.specs.declared.reading.ReadStop.TheVariants.{NoMemory};
 
@@ -47,20 +47,45 @@ pub fn read_all<S: Source>(alloc: Global, source: &mut S, limit: usize) -> Resul
     ensures cause { Counted (S.faults source.old) (S.faults source.new)
         (IsErrOf result ReadStop.ReadFault) }
 {
-    let mut chunk = vec![in alloc; 0; CHUNK]?;
+    let mut chunk = new_chunk(alloc)?;
     let mut bytes = Vec::new(alloc);
     loop {
-        let room = limit - bytes.len();
-        let window = cmp::min(room, CHUNK - 1) + 1;
-        let Ok(count) = source.take(&mut chunk[..window]) else {
-            return Err(ReadStop::ReadFault);
-        };
+        let count = take_next(source, &mut chunk, limit - bytes.len())?;
         if count == 0 {
             return Ok(bytes);
         }
-        if count > room {
-            return Err(ReadStop::TooLong);
-        }
         bytes.extend_from_slice(&chunk[..count])?;
+    }
+}
+
+// A place for the bytes of one call.
+fn new_chunk(alloc: Global) -> Result<Vec<u8>, AllocError>
+    ensures { IfOk result (λ chunk. 0 < vec_len chunk) }
+{
+    vec![in alloc; 0; CHUNK]
+}
+
+// Takes the next bytes into the chunk, and answers how many: none at the end, and no more than `room`.
+fn take_next<S: Source>(source: &mut S, chunk: &mut [u8], room: usize) -> Result<usize, ReadStop>
+    requires { 0 < length chunk.old }
+    ensures fits { IfOk result (λ count. count ≤ length chunk.new) }
+    ensures within { IfOk result (λ count. count ≤ room) }
+    ensures ok { IfOk result (λ count.
+        Taken (S.left source.old) (take count chunk.new) (S.left source.new)) }
+    ensures end { IfOk result (λ count. count ≡ 0 → AtEnd (S.left source.old)) }
+
+    ensures long { IsErrOf result ReadStop.TooLong →
+        TookExactly (S.left source.old) (room + 1) (S.left source.new) }
+    ensures fault { IsErrOf result ReadStop.ReadFault → S.left source.new ≡ S.left source.old }
+    ensures memory { IsErrOf result ReadStop.NoMemory → ⊥ }
+    ensures cause { Counted (S.faults source.old) (S.faults source.new)
+        (IsErrOf result ReadStop.ReadFault) }
+{
+    // One byte more than the room shows that there are too many.
+    let window = cmp::min(room, chunk.len() - 1) + 1;
+    match source.take(&mut chunk[..window]) {
+        Ok(count) if count <= room => Ok(count),
+        Ok(_) => Err(ReadStop::TooLong),
+        Err(_) => Err(ReadStop::ReadFault),
     }
 }
