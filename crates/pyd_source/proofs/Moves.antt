@@ -1,9 +1,9 @@
 -- How what two calls move adds up.
-use Rattle.std.proofs.Common.{◌≡◌, ◌∙◌, ap, sym, subst, arith, ℕ, ◌+◌, ◌-◌, ◌≤◌, List, [], ◌++◌, length, take, drop, append_assoc, length-append, length-drop}
-use Rattle.std.proofs.lemmas.List.{take_all}
+use Rattle.std.proofs.Common.{◌≡◌, ◌∙◌, ap, sym, subst, arith, ℕ, ◌+◌, ◌-◌, ◌≤◌, List, [], ◌++◌, length, take, drop, append_assoc, length-append, length-drop, take-append-drop}
+use Rattle.std.proofs.lemmas.List.{take_all, drop-drop}
 use Rattle.std.proofs.Math.Seq.{take-add}
 use Rattle.std.specs.Prelude.{Option, None, Some, option_map}
-use Rattle.pyd_source.specs.Content.{Taken, TookExactly, TookAtMost, AtEnd, Emptied, Added, Lowered}
+use Rattle.pyd_source.specs.Content.{Taken, TookExactly, TookAtMost, Added, Lowered}
 
 pub taken_more : (a b c : Option (List ℕ)) (xs ys : List ℕ) → Taken a xs b → Taken b ys c → Taken a (xs ++ ys) c
 taken_more a b None xs ys first more = first ∙ ap (option_map (λ rest. xs ++ rest)) more
@@ -17,13 +17,6 @@ took_exactly a b c xs more all first last size =
 pub took_at_most : (a b c : Option (List ℕ)) (xs ys : List ℕ) (all : ℕ) → Taken a xs b → Taken b ys c → length xs + length ys ≤ all → TookAtMost a all c
 took_at_most a b c xs ys all first last size =
     (xs ++ ys, omega (arith, length-append xs ys, size), taken_more a b c xs ys first last)
-
--- a call that takes nothing at the end leaves nothing
-pub emptied : (a b c : Option (List ℕ)) (xs : List ℕ) → Taken a xs b → AtEnd b → Taken b [] c → Emptied a c
-emptied a b None xs first end more = sym (ap (option_map (λ _. [])) (first ∙ ap (option_map (λ rest. xs ++ rest)) more))
-emptied a b (Some left) xs first end more =
-    let nothing : left ≡ [] = subst AtEnd more end in
-    ap Some nothing ∙ sym (ap (option_map (λ _. [])) (first ∙ ap (option_map (λ rest. xs ++ rest)) more))
 
 pub added_more : (a b c : Option (List ℕ)) (xs ys : List ℕ) → Added a xs b → Added b ys c → Added a (xs ++ ys) c
 added_more None b c xs ys first more = more ∙ ap (option_map (λ held. held ++ ys)) first
@@ -43,3 +36,12 @@ gone_within bytes gone count within took = omega (arith, within, took, ap length
 pub gone_more : (bytes : List ℕ) (gone count : ℕ) → take gone bytes ++ take count (take (length bytes - gone) (drop gone bytes)) ≡ take (gone + count) bytes
 gone_more bytes gone count =
     ap (λ (more : List ℕ). take gone bytes ++ take count more) (rest bytes gone) ∙ sym (take-add gone count bytes)
+
+-- a slice to its end is the front of it that was copied, and then the rest
+pub copied_front : (slice bytes front : List ℕ) (at count : ℕ) → slice ≡ bytes → front ≡ take count (take (length slice - at) (drop at slice)) → drop at bytes ≡ front ++ drop (at + count) bytes
+copied_front slice bytes front at count same copied =
+    let P = λ (l : List ℕ). drop at l ≡ front ++ drop (at + count) l in
+    subst P same (
+    sym (take-append-drop count (drop at slice))
+    ∙ ap (λ (l : List ℕ). l ++ drop count (drop at slice)) (sym (copied ∙ ap (take count) (rest slice at)))
+    ∙ ap (λ (l : List ℕ). front ++ l) (drop-drop count at slice))

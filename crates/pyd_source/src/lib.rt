@@ -10,6 +10,8 @@ mod script;
 mod sink;
 mod source;
 mod standard;
+#[cfg(test)]
+mod tests;
 mod writing;
 
 pub use failed::Failed;

@@ -69,10 +69,18 @@ impl Source for MemSource {
         if failed {
             return Err(Failed);
         }
-        let rest = &self.bytes[self.at..];
-        let count = cmp::min(cmp::min(self.script.step(), buf.len()), rest.len());
-        buf[..count].copy_from_slice(&rest[..count]);
+        let count = copy_front(&self.bytes[self.at..], buf, self.script.step());
         self.at += count;
         Ok(count)
     }
+}
+
+// Copies the front of a slice to the front of another, and answers how many bytes.
+fn copy_front(from: &[u8], to: &mut [u8], most: usize) -> usize
+    ensures count { result ≡ min (min most (length to.old)) (length from.now) }
+    ensures copied { take result to.new ≡ take result from.now }
+{
+    let count = cmp::min(cmp::min(most, to.len()), from.len());
+    to[..count].copy_from_slice(&from[..count]);
+    count
 }

@@ -6,7 +6,8 @@ ghost use Rattle.pyd_source.specs.declared.reading.ReadStop.TheVariants.{NoMemor
 
 use crate::Source;
 use std::alloc::{AllocError, Global};
-use std::cmp;
+use std::error::Error;
+use std::{cmp, fmt};
 
 /// The most bytes that one call takes.
 const CHUNK: usize = 65536;
@@ -20,6 +21,18 @@ pub enum ReadStop {
     ReadFault,
     NoMemory,
 }
+
+impl fmt::Display for ReadStop {
+    fn fmt<W: fmt::Write>(&self, f: &mut fmt::Formatter<W>) -> fmt::Result {
+        f.write_str(match self {
+            ReadStop::TooLong => "more bytes than the limit",
+            ReadStop::ReadFault => "the source failed",
+            ReadStop::NoMemory => "memory ran out",
+        })
+    }
+}
+
+impl Error for ReadStop {}
 
 impl From<AllocError> for ReadStop {
     ghost from_gives = { λ _ stop. stop ≡ NoMemory };

@@ -1,5 +1,6 @@
 //! When the calls of an object in memory fail.
 ghost use Rattle.std.specs.Prelude.{◌≡◌, ◌↔◌, ◌-◌, ◌^◌, ◌≤◌, Contains, IsTrue};
+ghost use Rattle.pyd_source.specs.Faults.{Counted};
 ghost use Rattle.pyd_source.specs.Script.{begun, called};
 
 use std::marker::Model;
@@ -50,7 +51,8 @@ impl Script {
 
     /// Counts a call, and a fault where it failed.
     pub(crate) fn count(&mut self, failed: bool)
-        ensures { self.new ≡ called failed self.old }
+        ensures after { self.new ≡ called failed self.old }
+        ensures cause { Counted self.old.faults self.new.faults (IsTrue failed) }
     {
         self.number = self.number.saturating_add(1);
         if failed {

@@ -4,6 +4,8 @@ ghost use Rattle.pyd_source.specs.Content.{Added, Lowered, Exceeds};
 ghost use Rattle.pyd_source.specs.Faults.{Counted};
 
 use crate::Sink;
+use std::error::Error;
+use std::fmt;
 
 /// The sink failed before all bytes had gone out.
 #[derive(Clone, Copy, Debug, PartialEq, Eq)]
@@ -11,6 +13,14 @@ pub struct Short {
     /// How many bytes went out, from the first on.
     pub gone: usize,
 }
+
+impl fmt::Display for Short {
+    fn fmt<W: fmt::Write>(&self, f: &mut fmt::Formatter<W>) -> fmt::Result {
+        write!(f, "the sink failed after {} bytes", self.gone)
+    }
+}
+
+impl Error for Short {}
 
 /// Puts all these bytes into a sink, in order. Takes no memory.
 pub fn put_all<K: Sink>(sink: &mut K, bytes: &[u8]) -> Result<(), Short>
