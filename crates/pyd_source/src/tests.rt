@@ -1,10 +1,10 @@
 //! Sources and sinks that fail at each call in turn.
-ghost use Rattle.std.specs.Prelude.{◌-◌, ◌^◌, ◌≤◌, Contains, IfOk, IsOk};
+ghost use Rattle.std.specs.Prelude.{◌-◌, ◌^◌, Contains, IfOk, IsOk, IsErrOf, None, false};
 
 use super::*;
 use std::alloc::{AllocError, Global};
 use std::io;
-use std::io::{Cursor, Error, ErrorKind, Read};
+use std::io::{Error, ErrorKind, Read};
 use std::test::Fail;
 
 const TEXT: &[u8] = b"print";
@@ -111,11 +111,51 @@ fn a_sink_takes_what_its_room_allows(rt: HostRuntime) -> Result<(), Fail> {
     Ok(())
 }
 
-// A sure sink never stops a write, as the clauses alone say.
+// A source at its end and a sink that drops all, whose counts never move.
+#[derive(Drop)]
+struct Still;
+
+impl Source for Still {
+    ghost left = { λ _. None };
+
+    ghost faults = { λ _. 0 };
+
+    fn take(&mut self, _: &mut [u8]) -> Result<usize, Failed> {
+        Ok(0)
+    }
+}
+
+impl Sink for Still {
+    ghost held = { λ _. None };
+
+    ghost room = { λ _. None };
+
+    ghost sure = { λ _. false };
+
+    ghost faults = { λ _. 0 };
+
+    fn put(&mut self, piece: &[u8]) -> Result<usize, Failed> {
+        Ok(piece.len())
+    }
+}
+
+// No fault comes from a sure sink or where a count doesn't move, as the clauses alone say.
 fn put_to_nowhere(bytes: &[u8]) -> Result<(), Short>
     ensures { IsOk result }
 {
     put_all(&mut NullSink::new(), bytes)
+}
+
+fn put_still(bytes: &[u8]) -> Result<(), Short>
+    ensures { IsOk result }
+{
+    put_all(&mut Still, bytes)
+}
+
+fn read_still(alloc: Global) -> Result<Vec<u8>, ReadStop>
+    ensures { IsErrOf result ReadStop.ReadFault → ⊥ }
+{
+    read_all(alloc, &mut Still, 5)
 }
 
 // A reader that fails.
@@ -136,7 +176,6 @@ fn the_adapters_pass_bytes_and_errors_on(rt: HostRuntime) -> Result<(), Fail> {
     let stopped = read_all(alloc, &mut StdSource::new(Broken), 5);
     assert!(rt; matches!(stopped, Err(ReadStop::ReadFault)));
 
-    assert_eq!(rt; put_to_nowhere(TEXT), Ok(()));
     assert_eq!(rt; put_all(&mut StdSink::new(Vec::new(alloc)), TEXT), Ok(()));
     let mut place = [0; 3];
     assert_eq!(rt;
@@ -144,5 +183,13 @@ fn the_adapters_pass_bytes_and_errors_on(rt: HostRuntime) -> Result<(), Fail> {
         Err(Short { gone: 3 })
     );
     assert_eq!(rt; place.as_slice(), &TEXT[..3]);
+    Ok(())
+}
+
+#[test]
+fn an_object_without_faults_gives_none(rt: HostRuntime) -> Result<(), Fail> {
+    assert_eq!(rt; put_to_nowhere(TEXT), Ok(()));
+    assert_eq!(rt; put_still(TEXT), Ok(()));
+    assert_eq!(rt; read_still(rt.alloc())?.len(), 0);
     Ok(())
 }
