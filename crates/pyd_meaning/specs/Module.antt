@@ -26,11 +26,15 @@ no_names name = None
 unfoldable pub mean : File → Evaluation Reached
 mean file = in_turn (map action_of (statements_of file.items)) no_names
 
+-- the end that a fault makes
+abbrev pub ended_by : Fault → End
+ended_by (Raised kind line) = ending.Raised kind line
+ended_by (Limit l line) = ending.Limit l line
+
 -- how it ends
 abbrev pub end_of : {A : Type 0} → Result A Fault → End
 end_of (Ok x) = ending.Finished
-end_of (Err (Raised kind line)) = ending.Raised kind line
-end_of (Err (Limit l line)) = ending.Limit l line
+end_of (Err f) = ended_by f
 
 -- each line in UTF-8 with a newline
 unfoldable pub bytes_of : List (List ℕ) → List ℕ

@@ -1,0 +1,4 @@
+pub mod Adding
+pub mod Printed
+pub mod Putting
+pub mod Items

@@ -1,0 +1,4 @@
+pub mod Conclusion
+pub mod Form
+pub mod Reading
+pub mod Tree
