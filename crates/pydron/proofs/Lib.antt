@@ -6,3 +6,4 @@ pub mod FileForm
 pub mod Trees
 pub mod Reports
 pub mod Inputs
+pub mod Readings

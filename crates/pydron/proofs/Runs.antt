@@ -24,14 +24,18 @@ same_digits (x ∷ xs) (y ∷ ys) r s p q nr ns e =
 space_first : (cs r : List ℕ) → slice_index r 0 ≢ 32 → r ≡ 32 ∷ cs → ⊥
 space_first cs r ends e = ends (ap (λ zs. slice_index zs 0) e)
 
--- what stands behind the spaces in front is determined
-pub same_spaces : (n m : ℕ) (r s : List ℕ) → slice_index r 0 ≢ 32 → slice_index s 0 ≢ 32 → replicate n 32 ++ r ≡ replicate m 32 ++ s → r ≡ s
-same_spaces zero zero r s nr ns e = e
-same_spaces zero (suc m) r s nr ns e = absurd (space_first (replicate m 32 ++ s) r nr e)
-same_spaces (suc n) zero r s nr ns e = absurd (space_first (replicate n 32 ++ r) s ns (sym e))
-same_spaces (suc n) (suc m) r s nr ns e =
+-- how many spaces stand in front is determined, and what stands behind them
+pub spaces_are : (n m : ℕ) (r s : List ℕ) → slice_index r 0 ≢ 32 → slice_index s 0 ≢ 32 → replicate n 32 ++ r ≡ replicate m 32 ++ s → (n ≡ m) × (r ≡ s)
+spaces_are zero zero r s nr ns e = (refl, e)
+spaces_are zero (suc m) r s nr ns e = absurd (space_first (replicate m 32 ++ s) r nr e)
+spaces_are (suc n) zero r s nr ns e = absurd (space_first (replicate n 32 ++ r) s ns (sym e))
+spaces_are (suc n) (suc m) r s nr ns e =
     let tails : replicate n 32 ++ r ≡ replicate m 32 ++ s = cc in
-    same_spaces n m r s nr ns tails
+    let rest = spaces_are n m r s nr ns tails in
+    (ap suc rest.0, rest.1)
+
+pub same_spaces : (n m : ℕ) (r s : List ℕ) → slice_index r 0 ≢ 32 → slice_index s 0 ≢ 32 → replicate n 32 ++ r ≡ replicate m 32 ++ s → r ≡ s
+same_spaces n m r s nr ns e = (spaces_are n m r s nr ns e).1
 
 digit_value-digit : (c : ℕ) → IsAsciiDigit c → digit_value c < 10
 digit_value-digit c digit = grind (arith, nat_tests)

@@ -11,7 +11,7 @@ use Rattle.pyd_tree.specs.declared.expression.Expr.TheOpen.{Expr-F}
 use Rattle.pydron.specs.Form.{IsTerm, Addend, addend_text, addends_text}
 use Rattle.pydron.specs.Reading.{NoDigit, CutsAddend, NoAddend, EndsSum, AddendsSoFar}
 use Rattle.pydron.specs.Tree.{IsTermTree, AreAddends}
-use Rattle.pydron.proofs.Runs.{same_digits, same_spaces, no_space}
+use Rattle.pydron.proofs.Runs.{same_digits, spaces_are, no_space}
 use Rattle.pydron.proofs.Addends.{addend_text-append}
 
 abbrev AllTerms : List Addend → Type 0
@@ -30,16 +30,22 @@ all_one a term (suc k) d lt = absurd (omega arith)
 plus_not_space : (bs : List ℕ) → slice_index (43 ∷ bs) 0 ≢ 32
 plus_not_space bs e = absurd (omega (arith, e))
 
--- what stands behind an addend in front is determined
-pub same_addend : (a b : Addend) (r s : List ℕ) → IsTerm a.digits → IsTerm b.digits → NoDigit r → NoDigit s → addend_text a ++ r ≡ addend_text b ++ s → r ≡ s
-same_addend a b r s p q nr ns e =
-    let pluses : 43 ∷ (replicate a.behind 32 ++ (a.digits ++ r)) ≡ 43 ∷ (replicate b.behind 32 ++ (b.digits ++ s)) =
-    same_spaces a.before b.before (43 ∷ (replicate a.behind 32 ++ (a.digits ++ r))) (43 ∷ (replicate b.behind 32 ++ (b.digits ++ s)))
+addend_is : (a b : Addend) → a.before ≡ b.before → a.behind ≡ b.behind → a.digits ≡ b.digits → a ≡ b
+addend_is a b p q r i = record { before = p i; behind = q i; digits = r i }
+
+-- an addend in front is determined, and what stands behind it
+pub addends_are : (a b : Addend) (r s : List ℕ) → IsTerm a.digits → IsTerm b.digits → NoDigit r → NoDigit s → addend_text a ++ r ≡ addend_text b ++ s → (a ≡ b) × (r ≡ s)
+addends_are a b r s p q nr ns e =
+    let pluses = spaces_are a.before b.before (43 ∷ (replicate a.behind 32 ++ (a.digits ++ r))) (43 ∷ (replicate b.behind 32 ++ (b.digits ++ s)))
     (plus_not_space (replicate a.behind 32 ++ (a.digits ++ r))) (plus_not_space (replicate b.behind 32 ++ (b.digits ++ s)))
     (sym (addend_text-append a r) ∙ e ∙ addend_text-append b s) in
-    let tails : replicate a.behind 32 ++ (a.digits ++ r) ≡ replicate b.behind 32 ++ (b.digits ++ s) = cc in
-    let terms = same_spaces a.behind b.behind (a.digits ++ r) (b.digits ++ s) (no_space a.digits r p.numeral.0 p.numeral.1) (no_space b.digits s q.numeral.0 q.numeral.1) tails in
-    (same_digits a.digits b.digits r s p.numeral.1 q.numeral.1 nr ns terms).1
+    let tails : replicate a.behind 32 ++ (a.digits ++ r) ≡ replicate b.behind 32 ++ (b.digits ++ s) = cc (pluses.1) in
+    let terms = spaces_are a.behind b.behind (a.digits ++ r) (b.digits ++ s) (no_space a.digits r p.numeral.0 p.numeral.1) (no_space b.digits s q.numeral.0 q.numeral.1) tails in
+    let rest = same_digits a.digits b.digits r s p.numeral.1 q.numeral.1 nr ns terms.1 in
+    (addend_is a b pluses.0 terms.0 rest.0, rest.1)
+
+pub same_addend : (a b : Addend) (r s : List ℕ) → IsTerm a.digits → IsTerm b.digits → NoDigit r → NoDigit s → addend_text a ++ r ≡ addend_text b ++ s → r ≡ s
+same_addend a b r s p q nr ns e = (addends_are a b r s p q nr ns e).1
 
 no_digit_spaces : (n : ℕ) (rest : List ℕ) → NoDigit (replicate n 32 ++ (43 ∷ rest))
 no_digit_spaces zero rest digit = absurd (omega (arith, digit.0))
@@ -105,3 +111,13 @@ addends_more bytes rest more links e n so_far cut literal =
           ∙ ap (λ bs. bs ++ more) (ap (λ bs. addends_text so_far.addends ++ bs) (sym (append-nil (addend_text cut.addend))) ∙ sym (flat_map-append addend_text so_far.addends (cut.addend ∷ [])));
       every = λ ends. let here = so_far.every ends in ends_behind here.addends rest more n here.terms here.whole cut;
     }
+
+-- the addends in front of the closing parenthesis are determined
+pub same_addends : (xs ys : List Addend) → AllTerms xs → AllTerms ys → addends_text xs ++ 41 ∷ [] ≡ addends_text ys ++ 41 ∷ [] → xs ≡ ys
+same_addends [] [] p q e = refl
+same_addends [] (y ∷ ys) p q e = absurd (no_paren y (addends_text ys ++ 41 ∷ []) (sym (addends_text-cons y ys (41 ∷ [])) ∙ sym e))
+same_addends (x ∷ xs) [] p q e = absurd (no_paren x (addends_text xs ++ 41 ∷ []) (sym (addends_text-cons x xs (41 ∷ [])) ∙ e))
+same_addends (x ∷ xs) (y ∷ ys) p q e =
+    let first = addends_are x y (addends_text xs ++ 41 ∷ []) (addends_text ys ++ 41 ∷ []) (all_head x xs p) (all_head y ys q) (no_digit_addends xs) (no_digit_addends ys)
+    (sym (addends_text-cons x xs (41 ∷ [])) ∙ e ∙ addends_text-cons y ys (41 ∷ [])) in
+    ap (λ a. a ∷ xs) first.0 ∙ ap (λ rest. y ∷ rest) (same_addends xs ys (all_tail x xs p) (all_tail y ys q) first.1)

@@ -1,4 +1,5 @@
 pub mod Conclusion
 pub mod Form
+pub mod Laws
 pub mod Reading
 pub mod Tree

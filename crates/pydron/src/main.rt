@@ -2,13 +2,17 @@
 #![tactic(auto)]
 
 mod conclusion;
+mod laws;
 mod read;
 mod report;
 mod run;
 mod status;
 mod term;
+#[cfg(test)]
+mod tests;
 
 use conclusion::Conclusion;
+pub use laws::form_laws;
 use pyd_source::{StdSink, StdSource};
 pub use read::{SourceStop, read_sums};
 pub use run::pydron_here;
