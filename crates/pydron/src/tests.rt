@@ -1,3 +1,5 @@
+ghost use Rattle.std.specs.Prelude.{◌≤◌, ◌-◌, ◌^◌, Contains, IfOk};
+
 use crate::{Status, pydron_here};
 use pyd_source::{MemSink, MemSource, Source};
 use std::alloc::{AllocError, Global};
@@ -91,12 +93,29 @@ const WORDS: &[&[&str]] = &[
     &["--help"],
 ];
 
-/// The status of a run, and what stands on the two sinks.
+/// How calls go: the most bytes that each moves, and the call of each object that fails.
+#[derive(Clone, Copy)]
+struct Course {
+    step: usize,
+    source: Option<u32>,
+    out: Option<u32>,
+    err: Option<u32>,
+}
+
+const SMOOTH: Course = Course {
+    step: 1_000_000,
+    source: None,
+    out: None,
+    err: None,
+};
+
+/// The status of a run, what stands on the two sinks, and how many bytes of the source are left.
 #[derive(Drop)]
 struct Ran {
     status: Status,
     output: Vec<u8>,
     error: Vec<u8>,
+    left: usize,
 }
 
 fn texts(alloc: Global, words: &[&str]) -> Result<Vec<String>, AllocError> {
@@ -107,31 +126,46 @@ fn texts(alloc: Global, words: &[&str]) -> Result<Vec<String>, AllocError> {
     Ok(texts)
 }
 
-fn never(alloc: Global) -> Vec<u64> {
-    Vec::new(alloc)
+fn fails_at(alloc: Global, call: Option<u32>) -> Result<Vec<u64>, AllocError>
+    ensures { IfOk result (λ fails. ¬ Contains fails.items (2 ^ 64 - 1)) }
+{
+    match call {
+        Some(call) => Vec::from_slice(alloc, &[u64::from(call)]),
+        None => Ok(Vec::new(alloc)),
+    }
 }
 
-/// Runs these words over this source, into sinks with ample room.
-fn run_over(alloc: Global, words: &[&str], source: &[u8]) -> Result<Ran, Fail> {
+/// Runs these words over this source.
+fn run_over(alloc: Global, words: &[&str], source: &[u8], course: Course) -> Result<Ran, Fail>
+    requires { 1 ≤ course.step }
+{
     let words = texts(alloc, words)?;
-    let mut source = MemSource::new(source.to_vec(alloc)?, never(alloc), 100_000);
-    let out = MemSink::new(alloc, 1000, never(alloc), 5)?;
-    let mut err = MemSink::new(alloc, 1000, never(alloc), 3)?;
+    let bytes = source.to_vec(alloc)?;
+    let mut source = MemSource::new(bytes, fails_at(alloc, course.source)?, course.step);
+    let out = MemSink::new(alloc, 1000, fails_at(alloc, course.out)?, course.step)?;
+    let mut err = MemSink::new(alloc, 1000, fails_at(alloc, course.err)?, course.step)?;
     let ended = pydron_here(alloc, &words, &mut source, out, &mut err, &[]);
     Ok(Ran {
         status: ended.status,
         output: ended.out.held().to_vec(alloc)?,
         error: err.held().to_vec(alloc)?,
+        left: source.take(&mut [0; 16]).unwrap_or(0),
     })
+}
+
+/// Whether a run ended with this status and these bytes on the two sinks.
+fn gave(ran: &Ran, status: Status, output: &str, error: &str) -> bool {
+    ran.status == status
+        && ran.output.as_slice() == output.as_bytes()
+        && ran.error.as_slice() == error.as_bytes()
 }
 
 #[test]
 fn files_of_sums_give_what_python_gives(rt: HostRuntime) -> Result<(), Fail> {
     for (source, status, output, error) in FILES {
-        let ran = run_over(rt.alloc(), RUN, source.as_bytes())?;
-        assert_eq!(rt; ran.status, *status);
-        assert_eq!(rt; ran.output.as_slice(), output.as_bytes());
-        assert_eq!(rt; ran.error.as_slice(), error.as_bytes());
+        let ran = run_over(rt.alloc(), RUN, source.as_bytes(), SMOOTH)?;
+        assert!(rt; gave(&ran, *status, output, error), "{source}");
+        assert_eq!(rt; ran.left, 0, "{source}");
     }
     Ok(())
 }
@@ -139,59 +173,42 @@ fn files_of_sums_give_what_python_gives(rt: HostRuntime) -> Result<(), Fail> {
 #[test]
 fn the_first_line_of_another_form_is_named(rt: HostRuntime) -> Result<(), Fail> {
     for (source, error) in REFUSED {
-        let ran = run_over(rt.alloc(), RUN, source.as_bytes())?;
-        assert_eq!(rt; ran.status, Status::Refused);
-        assert_eq!(rt; ran.output.len(), 0);
-        assert_eq!(rt; ran.error.as_slice(), error.as_bytes());
+        let ran = run_over(rt.alloc(), RUN, source.as_bytes(), SMOOTH)?;
+        assert!(rt; gave(&ran, Status::Refused, "", error), "{source}");
     }
-    let ran = run_over(rt.alloc(), RUN, b"print(1)\nprint(\xff)\n")?;
-    assert_eq!(rt;
-        ran.error.as_slice(),
-        b"REFUSED NotYet: line 2\n".as_slice()
-    );
+    let ran = run_over(rt.alloc(), RUN, b"print(1)\nprint(\xff)\n", SMOOTH)?;
+    assert!(rt; gave(&ran, Status::Refused, "", "REFUSED NotYet: line 2\n"));
     Ok(())
 }
 
 #[test]
 fn other_words_are_refused_and_nothing_is_read(rt: HostRuntime) -> Result<(), Fail> {
-    let alloc = rt.alloc();
     for words in WORDS {
-        let words = texts(alloc, words)?;
-        let mut source = MemSource::new(b"print(1)".to_vec(alloc)?, never(alloc), 100);
-        let out = MemSink::new(alloc, 100, never(alloc), 100)?;
-        let mut err = MemSink::new(alloc, 100, never(alloc), 100)?;
-        let ended = pydron_here(alloc, &words, &mut source, out, &mut err, &[]);
-        assert_eq!(rt; ended.status, Status::Words);
-        assert_eq!(rt; ended.out.held().len(), 0);
-        assert_eq!(rt; err.held(), b"WORDS Line\n".as_slice());
-        let mut rest = [0; 100];
-        assert_eq!(rt; source.take(&mut rest), Ok(8));
+        let ran = run_over(rt.alloc(), words, b"print(1)", SMOOTH)?;
+        assert!(rt; gave(&ran, Status::Words, "", "WORDS Line\n"));
+        assert_eq!(rt; ran.left, 8);
     }
     Ok(())
 }
 
 #[test]
 fn a_source_may_have_a_mebibyte(rt: HostRuntime) -> Result<(), Fail> {
-    let alloc = rt.alloc();
-    let mut source = b"print(1".to_vec(alloc)?;
+    let mut source = b"print(1".to_vec(rt.alloc())?;
     for _ in 0..524_284 {
         source.extend_from_slice(b"+0")?;
     }
     source.push(b')')?;
     assert_eq!(rt; source.len(), 1_048_576);
-    let whole = run_over(alloc, RUN, &source)?;
-    assert_eq!(rt; whole.status, Status::Done);
-    assert_eq!(rt; whole.output.as_slice(), b"1\n".as_slice());
+    let whole = run_over(rt.alloc(), RUN, &source, SMOOTH)?;
+    assert!(rt; gave(&whole, Status::Done, "1\n", ""));
     source.push(b'\n')?;
-    let long = run_over(alloc, RUN, &source)?;
-    assert_eq!(rt; long.status, Status::Refused);
-    assert_eq!(rt; long.output.len(), 0);
-    assert_eq!(rt; long.error.as_slice(), b"REFUSED TooLong\n".as_slice());
+    let long = run_over(rt.alloc(), RUN, &source, SMOOTH)?;
+    assert!(rt; gave(&long, Status::Refused, "", "REFUSED TooLong\n"));
     Ok(())
 }
 
 /// The most bytes that a call moves, the call that fails, and then what stands on the sinks.
-type FailingRow = (usize, u64, Status, &'static str, &'static str);
+type FailingRow = (usize, u32, Status, &'static str, &'static str);
 
 /// The source `print(1 + 2)`, of 12 bytes, failing at this call.
 const SOURCE_FAILS: &[FailingRow] = &[
@@ -208,18 +225,18 @@ const SOURCE_FAILS: &[FailingRow] = &[
 
 #[test]
 fn a_source_fails_at_each_call(rt: HostRuntime) -> Result<(), Fail> {
-    let alloc = rt.alloc();
     for (step, call, status, output, error) in SOURCE_FAILS {
-        let mut fails = Vec::new(alloc);
-        fails.push(*call)?;
-        let words = texts(alloc, RUN)?;
-        let mut source = MemSource::new(b"print(1 + 2)".to_vec(alloc)?, fails, *step);
-        let out = MemSink::new(alloc, 100, never(alloc), 100)?;
-        let mut err = MemSink::new(alloc, 100, never(alloc), 100)?;
-        let ended = pydron_here(alloc, &words, &mut source, out, &mut err, &[]);
-        assert_eq!(rt; ended.status, *status);
-        assert_eq!(rt; ended.out.held(), output.as_bytes());
-        assert_eq!(rt; err.held(), error.as_bytes());
+        assert!(rt; *step > 0);
+        let course = Course {
+            step: *step,
+            source: Some(*call),
+            ..SMOOTH
+        };
+        let ran = run_over(rt.alloc(), RUN, b"print(1 + 2)", course)?;
+        assert!(rt;
+            gave(&ran, *status, output, error),
+            "step {step}, call {call}"
+        );
     }
     Ok(())
 }
@@ -239,18 +256,18 @@ const OUTPUT_FAILS: &[FailingRow] = &[
 
 #[test]
 fn the_sink_for_output_fails_at_each_call(rt: HostRuntime) -> Result<(), Fail> {
-    let alloc = rt.alloc();
     for (step, call, status, output, error) in OUTPUT_FAILS {
-        let mut fails = Vec::new(alloc);
-        fails.push(*call)?;
-        let words = texts(alloc, RUN)?;
-        let mut source = MemSource::new(b"print(12345)".to_vec(alloc)?, never(alloc), 100);
-        let out = MemSink::new(alloc, 100, fails, *step)?;
-        let mut err = MemSink::new(alloc, 100, never(alloc), 100)?;
-        let ended = pydron_here(alloc, &words, &mut source, out, &mut err, &[]);
-        assert_eq!(rt; ended.status, *status);
-        assert_eq!(rt; ended.out.held(), output.as_bytes());
-        assert_eq!(rt; err.held(), error.as_bytes());
+        assert!(rt; *step > 0);
+        let course = Course {
+            step: *step,
+            out: Some(*call),
+            ..SMOOTH
+        };
+        let ran = run_over(rt.alloc(), RUN, b"print(12345)", course)?;
+        assert!(rt;
+            gave(&ran, *status, output, error),
+            "step {step}, call {call}"
+        );
     }
     Ok(())
 }
@@ -270,18 +287,18 @@ const ERROR_FAILS: &[FailingRow] = &[
 
 #[test]
 fn the_sink_for_errors_fails_at_each_call(rt: HostRuntime) -> Result<(), Fail> {
-    let alloc = rt.alloc();
     for (step, call, status, output, error) in ERROR_FAILS {
-        let mut fails = Vec::new(alloc);
-        fails.push(*call)?;
-        let words = texts(alloc, RUN)?;
-        let mut source = MemSource::new(b"x".to_vec(alloc)?, never(alloc), 100);
-        let out = MemSink::new(alloc, 100, never(alloc), 100)?;
-        let mut err = MemSink::new(alloc, 100, fails, *step)?;
-        let ended = pydron_here(alloc, &words, &mut source, out, &mut err, &[]);
-        assert_eq!(rt; ended.status, *status);
-        assert_eq!(rt; ended.out.held(), output.as_bytes());
-        assert_eq!(rt; err.held(), error.as_bytes());
+        assert!(rt; *step > 0);
+        let course = Course {
+            step: *step,
+            err: Some(*call),
+            ..SMOOTH
+        };
+        let ran = run_over(rt.alloc(), RUN, b"x", course)?;
+        assert!(rt;
+            gave(&ran, *status, output, error),
+            "step {step}, call {call}"
+        );
     }
     Ok(())
 }
@@ -290,13 +307,10 @@ fn the_sink_for_errors_fails_at_each_call(rt: HostRuntime) -> Result<(), Fail> {
 fn a_sink_without_room_holds_a_prefix(rt: HostRuntime) -> Result<(), Fail> {
     let alloc = rt.alloc();
     let words = texts(alloc, RUN)?;
-    let mut source = MemSource::new(
-        b"print(1 + 2)\nprint(44)\n".to_vec(alloc)?,
-        never(alloc),
-        100,
-    );
-    let out = MemSink::new(alloc, 4, never(alloc), 2)?;
-    let mut err = MemSink::new(alloc, 100, never(alloc), 100)?;
+    let bytes = b"print(1 + 2)\nprint(44)\n".to_vec(alloc)?;
+    let mut source = MemSource::new(bytes, Vec::new(alloc), 100);
+    let out = MemSink::new(alloc, 4, Vec::new(alloc), 2)?;
+    let mut err = MemSink::new(alloc, 100, Vec::new(alloc), 100)?;
     let ended = pydron_here(alloc, &words, &mut source, out, &mut err, &[]);
     assert_eq!(rt; ended.status, Status::SinkFault);
     assert!(rt; b"3\n44\n".starts_with(ended.out.held()));
