@@ -1,0 +1,123 @@
+-- the scanner's steps over pieces, which give what the lines give
+use Rattle.std.specs.Prelude.{◌≡◌, ℕ, ◌+◌, ◌-◌, ◌≤◌, Bool, true, false, ◌&&◌, ◌==◌, List, [], ◌∷◌, ◌++◌, length, take, Result, Ok, Err}
+use Rattle.pyd_lex.specs.declared.fault.LexFault.{LexFault}
+use Rattle.pyd_lex.specs.declared.fault.LexFault.TheVariants as fault
+use Rattle.pyd_lex.specs.declared.fault.Flaw.{Flaw}
+use Rattle.pyd_lex.specs.declared.fault.Stop.{Stop}
+use Rattle.pyd_lex.specs.declared.fault.Stop.TheVariants as stop
+use Rattle.pyd_lex.specs.declared.place.Place.{Place}
+use Rattle.pyd_lex.specs.declared.run.Class.{Class}
+use Rattle.pyd_lex.specs.declared.scan.Mode.{Mode}
+use Rattle.pyd_lex.specs.declared.scan.Mode.TheVariants.{Margin, Inside}
+use Rattle.pyd_lex.specs.declared.token.Shape.{Shape}
+use Rattle.pyd_lex.specs.declared.token.Shape.TheVariants.{Space, Tab, Comment, Break, Token as Spelled}
+use Rattle.pyd_lex.specs.declared.token.Token.{Token}
+use Rattle.pyd_lex.specs.declared.token.TokenKind.TheVariants as kind
+use Rattle.pyd_lex.specs.Words.{Text}
+use Rattle.pyd_lex.specs.Spelling.{class_of, IsLongest, IsCut}
+use Rattle.pyd_lex.specs.Meaning.{Judged, meaning}
+use Rattle.pyd_lex.specs.Lines.{Piece, Answer, placed, end_of, ahead, empty_at, token_at, fault_at, shown, bracket, indented, closing}
+
+-- where the flaw is one, and not want of memory
+abbrev pub IfFlaw : Stop → (Flaw → Type 0) → Type 0
+IfFlaw (stop.Flaw f) P = P f
+IfFlaw stop.NoMemory P = Unit {0}
+
+-- it is a flaw, and this holds of it
+abbrev pub IsFlaw : Stop → (Flaw → Type 0) → Type 0
+IsFlaw (stop.Flaw f) P = P f
+IsFlaw stop.NoMemory P = ⊥
+
+-- the longest piece at the front has this flaw
+abbrev pub IsFlawed : Text → Flaw → Type 0
+IsFlawed text f = (n : ℕ) × IsLongest text n × (meaning (take n text) ≡ Err f)
+
+-- the longest piece at the front has this shape and length
+pub record IsGood (text : Text) (s : Shape) (n : ℕ) : Type 0 where
+  pub longest : IsLongest text n
+  pub means : meaning (take n text) ≡ Ok s
+  pub moves : 1 ≤ n
+
+-- the text begins with a character of this class
+abbrev pub HasClass : Class → Text → Type 0
+HasClass k [] = ⊥
+HasClass k (c ∷ z) = class_of c ≡ k
+
+-- the number that a mode counts
+abbrev pub count : Mode → ℕ
+count (Margin width tab) = width
+count (Inside depth loud) = depth
+
+-- the mode after a piece in the margin that is no token
+abbrev pub margin_after : ℕ → Bool → Shape → Mode
+margin_after width tab Space = Margin (width + 1) tab
+margin_after width tab Tab = Margin (width + 1) true
+margin_after width tab Comment = Inside 0 false
+margin_after width tab Break = Margin 0 false
+margin_after width tab (Spelled k) = Margin width tab
+
+-- the end of a line that the text's end leaves unfinished
+abbrev pub unfinished : Mode → Place → List Token
+unfinished (Margin width tab) end = []
+unfinished (Inside depth loud) end = shown (loud && (depth == 0)) (empty_at kind.Newline end)
+
+-- a line that begins here with this width, where no tab is before it
+abbrev pub started : Bool → ℕ → Place → List ℕ → (List ℕ → Answer) → Answer
+started true w p ws next = Err (fault.Tab p.line)
+started false w p ws next = indented w p ws next
+
+-- what the pieces say from this mode and these widths on
+unfoldable pub run : Place → List Piece → Mode → List ℕ → Answer
+run end [] mode ws = ahead (unfinished mode end) (Ok (closing end ws))
+run end (p ∷ ps) (Margin width tab) ws =
+    elim (p.means) [
+      Err f ↦ started tab width p.at ws (λ vs. Err (fault_at f p.at))
+    | Ok s ↦ elim s [
+        Spelled k ↦ started tab width p.at ws (λ vs. ahead (token_at k p ∷ []) (run end ps (Inside (bracket 0 k) true) vs))
+      | Break ↦ run end ps (Margin 0 false) ws
+      | Space ↦ run end ps (Margin (width + 1) tab) ws
+      | Tab ↦ run end ps (Margin (width + 1) true) ws
+      | Comment ↦ run end ps (Inside 0 false) ws
+      ]
+    ]
+run end (p ∷ ps) (Inside depth loud) ws =
+    elim (p.means) [
+      Err f ↦ Err (fault_at f p.at)
+    | Ok s ↦ elim s [
+        Spelled k ↦ ahead (shown loud (token_at k p)) (run end ps (Inside (bracket depth k) loud) ws)
+      | Break ↦ elim (depth == 0) [
+          true ↦ ahead (shown loud (token_at kind.Newline p)) (run end ps (Margin 0 false) ws)
+        | false ↦ run end ps (Inside depth loud) ws
+        ]
+      | Space ↦ run end ps (Inside depth loud) ws
+      | Tab ↦ run end ps (Inside depth loud) ws
+      | Comment ↦ run end ps (Inside depth loud) ws
+      ]
+    ]
+
+-- a line that begins here with this width is begun: what comes next is the same as before
+abbrev pub Begins : List Token → ((List ℕ → Answer) → Answer) → List Token → List ℕ → Type 0
+Begins ts before us vs = (next : List ℕ → Answer) → ahead ts (before next) ≡ ahead us (next vs)
+
+-- a line that begins here has this fault
+abbrev pub Refuses : ((List ℕ → Answer) → Answer) → LexFault → Type 0
+Refuses before f = (next : List ℕ → Answer) → before next ≡ Err f
+
+-- whatever pieces follow, all is the same after this one
+abbrev pub Takes : List Token → Mode → List ℕ → Piece → List Token → Mode → List ℕ → Type 0
+Takes ts m ws p us n vs = (end : Place) (ps : List Piece) → ahead ts (run end (p ∷ ps) m ws) ≡ ahead us (run end ps n vs)
+
+-- whatever pieces follow, this one ends all with a fault
+abbrev pub Halts : Mode → List ℕ → Piece → LexFault → Type 0
+Halts m ws p f = (end : Place) (ps : List Piece) → run end (p ∷ ps) m ws ≡ Err f
+
+abbrev pub good : Shape → Place → Place → Piece
+good s p q = record { means = Ok s; at = p; to = q.at }
+
+abbrev pub bad : Flaw → Place → ℕ → Piece
+bad f p to = record { means = Err f; at = p; to = to }
+
+-- what is left of the text says this, after these tokens
+abbrev pub SaysFrom : Place → Text → List Token → Mode → List ℕ → Answer → Type 0
+SaysFrom p text ts m ws answer =
+    (pieces : List Text) × IsCut text pieces × (ahead ts (run (end_of p pieces) (placed p pieces) m ws) ≡ answer)
