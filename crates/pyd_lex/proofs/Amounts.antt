@@ -1,10 +1,10 @@
 -- the value of digits never falls
-use Rattle.std.proofs.Common.{◌≡◌, ℕ, zero, suc, ◌+◌, ◌*◌, ◌^◌, ◌<◌, ◌≤◌, Bool, true, false, ◌==◌, List, [], ◌∷◌, length, drop, get_or, Option, Some, None, Ok, Err, if◌then◌else◌, nat_lt, refl, sym, ap, subst, ◌∙◌, arith, inl, inr}
-use Rattle.std.proofs.lemmas.Bool.{cases_Bool, cases_lt}
+use Rattle.std.proofs.Common.{◌≡◌, ℕ, zero, suc, ◌+◌, ◌*◌, ◌≤◌, Bool, true, false, ◌==◌, [], ◌∷◌, length, drop, get_or, Option, None, Err, if◌then◌else◌, refl, sym, ap, subst, ◌∙◌, arith, inl, inr}
+use Rattle.std.proofs.lemmas.Bool.{cases_Bool}
 use Rattle.std.proofs.lemmas.Bool.Decides.{nat_tests}
 use Rattle.std.specs.Char.{digit_value}
 use Rattle.pyd_lex.specs.Words.{Text}
-use Rattle.pyd_lex.specs.Numbers.{amount, narrow, number, radix, digits, is_digits, is_led, led}
+use Rattle.pyd_lex.specs.Numbers.{amount, narrow, number, radix, digits, is_digits, led}
 use Rattle.pyd_lex.specs.declared.fault.Flaw.TheVariants.{BadNumber}
 
 pub amount_first : (base n x : ℕ) (z : Text) → 1 ≤ length z → x ≡ get_or z 0 x → (x ≡ 95 → ⊥) → amount base n z ≡ amount base (n * base + digit_value x) (drop 1 z)
@@ -21,11 +21,11 @@ amount_grows : (base n : ℕ) (z : Text) → 1 ≤ base → n ≤ amount base n 
 amount_grows base n [] h = omega arith
 amount_grows base n (c ∷ z) h =
     elim (cases_Bool (c == 95)) [
-      inl t ↦ rw t (amount_grows base n z h)
-    | inr f ↦
-        let r = amount_grows base (n * base + digit_value c) z h in
-        let m = more n base (digit_value c) h in
-        rw f (omega arith)
+      | inl t ↦ rw t (amount_grows base n z h)
+      | inr f ↦
+          let r = amount_grows base (n * base + digit_value c) z h in
+          let m = more n base (digit_value c) h in
+          rw f (omega arith)
     ]
 
 wide : (n m : ℕ) → n ≤ m → narrow n ≡ None → narrow m ≡ None

@@ -1,20 +1,17 @@
 -- a fault is at the first piece that isn't well, or begins its line
-use Rattle.std.proofs.Common.{◌≡◌, ℕ, zero, suc, ◌+◌, Bool, true, false, ◌==◌, nat_lt, List, [], ◌∷◌, ◌++◌, Result, Ok, Err, refl, sym, ap, subst, ◌∙◌, inl, inr, ◌⊎◌, if◌then◌else◌}
-use Rattle.std.proofs.lemmas.Bool.{cases_Bool}
-use Rattle.pyd_lex.specs.declared.fault.Flaw.{Flaw}
+use Rattle.std.proofs.Common.{◌≡◌, ℕ, ◌+◌, Bool, true, false, ◌==◌, nat_lt, List, [], ◌∷◌, Ok, Err, refl, sym, ◌∙◌, inl, inr, ◌⊎◌, if◌then◌else◌}
 use Rattle.pyd_lex.specs.declared.fault.LexFault.{LexFault}
 use Rattle.pyd_lex.specs.declared.fault.LexFault.TheVariants as fault
 use Rattle.pyd_lex.specs.declared.place.Place.{Place}
-use Rattle.pyd_lex.specs.declared.scan.Mode.{Mode}
-use Rattle.pyd_lex.specs.declared.scan.Mode.TheVariants.{Margin, Inside}
-use Rattle.pyd_lex.specs.declared.token.Shape.{Shape}
+use Rattle.pyd_lex.specs.declared.mode.Mode.{Mode}
+use Rattle.pyd_lex.specs.declared.mode.Mode.TheVariants.{Margin, Inside}
 use Rattle.pyd_lex.specs.declared.token.Shape.TheVariants.{Space, Tab, Comment, Break, Token as Spelled}
 use Rattle.pyd_lex.specs.declared.token.Token.{Token}
 use Rattle.pyd_lex.specs.declared.token.TokenKind.TheVariants as kind
 use Rattle.pyd_lex.specs.Meaning.{Judged}
 use Rattle.pyd_lex.specs.Lines.{Piece, Answer, ahead, lowered, indented, top, fault_at, empty_at, token_at, shown, bracket, closing, placed, end_of}
 use Rattle.pyd_lex.specs.Scan.{run, started, unfinished}
-use Rattle.pyd_lex.specs.Laws.{FirstFault, AllWell, IsFirst, IsAt, IsWell, AreWell}
+use Rattle.pyd_lex.specs.Laws.{FirstFault, AllWell, IsFirst, AreWell}
 use Rattle.pyd_lex.proofs.Lines.{run_reads}
 use Rattle.pyd_lex.proofs.Steps.{ahead_err}
 
@@ -124,10 +121,10 @@ module _ (end : Place) where
   unfolding run
   step_err (Err x) p to ps r (Margin w tab) ws f h =
       elim (started_err tab w p ws (λ vs. Err (fault_at x p)) f h) [
-        inl e ↦ inl (inr (inl e))
-      | inr o ↦ elim o [
-          inl e ↦ inl (inr (inr e))
-        | inr k ↦ inl (inl (x, refl, err_is f (fault_at x p) k.1))
+        | inl e ↦ inl (inr (inl e))
+        | inr o ↦ elim o [
+          | inl e ↦ inl (inr (inr e))
+          | inr k ↦ inl (inl (x, refl, err_is f (fault_at x p) k.1))
         ]
       ]
   step_err (Err x) p to ps r (Inside depth loud) ws f h = inl (inl (x, refl, err_is f (fault_at x p) h))
@@ -137,10 +134,10 @@ module _ (end : Place) where
   step_err (Ok Break) p to ps r (Margin w tab) ws f h = inr ((Break, refl), r (Margin 0 false) ws f h)
   step_err (Ok (Spelled k)) p to ps r (Margin w tab) ws f h =
       elim (started_err tab w p ws (λ vs. ahead (token_at k (made (Ok (Spelled k)) p to) ∷ []) (run end ps (Inside (bracket 0 k) true) vs)) f h) [
-        inl e ↦ inl (inr (inl e))
-      | inr o ↦ elim o [
-          inl e ↦ inl (inr (inr e))
-        | inr n ↦ inr ((Spelled k, refl), r (Inside (bracket 0 k) true) n.0 f (ahead_err (token_at k (made (Ok (Spelled k)) p to) ∷ []) (run end ps (Inside (bracket 0 k) true) n.0) f n.1))
+        | inl e ↦ inl (inr (inl e))
+        | inr o ↦ elim o [
+          | inl e ↦ inl (inr (inr e))
+          | inr n ↦ inr ((Spelled k, refl), r (Inside (bracket 0 k) true) n.0 f (ahead_err (token_at k (made (Ok (Spelled k)) p to) ∷ []) (run end ps (Inside (bracket 0 k) true) n.0) f n.1))
         ]
       ]
   step_err (Ok Space) p to ps r (Inside depth loud) ws f h = inr ((Space, refl), r (Inside depth loud) ws f h)

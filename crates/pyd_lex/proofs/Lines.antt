@@ -1,17 +1,16 @@
 -- the scanner's steps say what the lines say
-use Rattle.std.proofs.Common.{◌≡◌, ℕ, zero, suc, ◌+◌, ◌<◌, ◌≤◌, Bool, true, false, ◌&&◌, ◌||◌, ◌==◌, List, [], ◌∷◌, ◌++◌, length, Result, Ok, Err, refl, sym, ap, subst, ◌∙◌, arith, inl, inr, append_assoc, add-zero, zero-add}
-use Rattle.std.proofs.lemmas.Bool.{cases_Bool, eqb-true}
-use Rattle.std.proofs.Math.Bool.{or-true, or-false}
-use Rattle.pyd_lex.specs.declared.fault.LexFault.{LexFault}
+use Rattle.std.proofs.Common.{◌≡◌, ℕ, ◌+◌, Bool, true, false, ◌||◌, ◌==◌, List, [], ◌∷◌, ◌++◌, Ok, Err, refl, sym, ap, ◌∙◌, arith, append_assoc, add-zero, zero-add}
+use Rattle.std.proofs.lemmas.Bool.{eqb-true}
+use Rattle.std.proofs.Math.Bool.{or-true}
 use Rattle.pyd_lex.specs.declared.place.Place.{Place}
-use Rattle.pyd_lex.specs.declared.scan.Mode.TheVariants.{Margin, Inside}
+use Rattle.pyd_lex.specs.declared.mode.Mode.TheVariants.{Margin, Inside}
 use Rattle.pyd_lex.specs.declared.token.Shape.TheVariants.{Space, Tab, Comment, Break, Token as Spelled}
 use Rattle.pyd_lex.specs.declared.token.Token.{Token}
 use Rattle.pyd_lex.specs.declared.token.TokenKind.TheVariants as kind
 use Rattle.pyd_lex.specs.Words.{Text}
 use Rattle.pyd_lex.specs.Meaning.{Judged}
-use Rattle.pyd_lex.specs.Lines.{Piece, Line, Lines, Answer, ahead, shown, token_at, empty_at, said, lines, laid, line_said, content, width, has_tab, all_lines, closing, read, placed, end_of, indented, bracket, joined}
-use Rattle.pyd_lex.specs.Scan.{run, started}
+use Rattle.pyd_lex.specs.Lines.{Piece, Lines, Answer, ahead, shown, token_at, said, lines, laid, line_said, content, width, has_tab, all_lines, read, placed, end_of, indented, bracket, joined}
+use Rattle.pyd_lex.specs.Scan.{run}
 
 pub ahead_nil : (a : Answer) → ahead [] a ≡ a
 ahead_nil (Ok us) = refl

@@ -1,5 +1,5 @@
 -- the longest piece at the front, by the class of its first character
-use Rattle.std.proofs.Common.{◌≡◌, ℕ, zero, suc, ◌+◌, ◌<◌, ◌≤◌, Bool, true, false, ◌&&◌, ◌||◌, ◌==◌, List, [], ◌∷◌, length, take, drop, get_or, Option, Some, None, Result, Ok, Err, refl, sym, ap, subst, ◌∙◌, arith, inl, inr, length-take-le, is_some, eqb}
+use Rattle.std.proofs.Common.{◌≡◌, ℕ, zero, suc, ◌+◌, ◌<◌, ◌≤◌, Bool, true, false, ◌&&◌, ◌||◌, ◌==◌, [], ◌∷◌, length, take, drop, get_or, Some, None, Ok, Err, refl, sym, ap, subst, ◌∙◌, arith, inl, inr, eqb}
 use Rattle.std.proofs.lemmas.Bool.Decides.{nat_tests}
 use Rattle.std.proofs.lemmas.Bool.{cases_Bool, eqb-true}
 use Rattle.std.proofs.Math.Bool.{or-true}
@@ -15,10 +15,10 @@ use Rattle.pyd_lex.specs.declared.token.Shape.{Shape}
 use Rattle.pyd_lex.specs.declared.token.Shape.TheVariants as shape
 use Rattle.pyd_lex.specs.declared.token.TokenKind.{TokenKind}
 use Rattle.pyd_lex.specs.declared.token.TokenKind.TheVariants as kind
-use Rattle.pyd_lex.specs.Words.{Text, begins, marks, mark_of, front_mark, first_same}
+use Rattle.pyd_lex.specs.Words.{Text, begins, marks, mark_of, front_mark}
 use Rattle.pyd_lex.specs.Strings.{string_flaw}
 use Rattle.pyd_lex.specs.Numbers.{number}
-use Rattle.pyd_lex.specs.Spelling.{class_of, in_comment, continues, belong, is_piece, IsLast, Extends, IsLongest}
+use Rattle.pyd_lex.specs.Spelling.{class_of, in_comment, continues, belong, IsLast, Extends, IsLongest}
 use Rattle.pyd_lex.specs.Meaning.{meaning, judged, as_token, name, ended, other, blank, blank_or, marked}
 use Rattle.pyd_lex.specs.declared.fault.Stop.{Stop}
 use Rattle.pyd_lex.specs.declared.fault.Stop.TheVariants as stop
@@ -34,22 +34,22 @@ run_last p [] = record { within = omega arith; here = refl; beyond = λ j lt le.
 run_last p (x ∷ z) =
     let r = run_last p z in
     elim (cases_Bool (p x)) [
-      inl t ↦ rw t (subst (λ m. IsLast (λ j. list_all p (take j (x ∷ z))) (suc (length z)) m) (one_more (prefix_len p z)) (record {
-          within = let w = r.within in omega arith;
-          here = rw t r.here;
-          beyond = λ j lt le. elim j as (λ i. suc (prefix_len p z) < i → i ≤ suc (length z) → list_all p (take i (x ∷ z)) ≡ false) [
-            zero ↦ λ l m. absurd (omega arith)
+      | inl t ↦ rw t (subst (λ m. IsLast (λ j. list_all p (take j (x ∷ z))) (suc (length z)) m) (one_more (prefix_len p z)) (record {
+        within = let w = r.within in omega arith;
+        here = rw t r.here;
+        beyond = λ j lt le. elim j as (λ i. suc (prefix_len p z) < i → i ≤ suc (length z) → list_all p (take i (x ∷ z)) ≡ false) [
+          | zero ↦ λ l m. absurd (omega arith)
           | suc i ↦ λ l m. rw t (r.beyond i (omega arith) (omega arith))
-          ] lt le;
-        }))
-    | inr f ↦ rw f (record {
-          within = omega arith;
-          here = refl;
-          beyond = λ j lt le. elim j as (λ i. 0 < i → list_all p (take i (x ∷ z)) ≡ false) [
-            zero ↦ λ l. absurd (omega arith)
+        ] lt le;
+      }))
+      | inr f ↦ rw f (record {
+        within = omega arith;
+        here = refl;
+        beyond = λ j lt le. elim j as (λ i. 0 < i → list_all p (take i (x ∷ z)) ≡ false) [
+          | zero ↦ λ l. absurd (omega arith)
           | suc i ↦ λ l. rw f refl
-          ] lt;
-        })
+        ] lt;
+      })
     ]
 
 -- ---- from the part after the first character to the piece
@@ -210,12 +210,12 @@ blank_front : (c : ℕ) (z : Text) (s : Shape) → blank c ≡ Some s → front_
 unfolding front_mark
 blank_front c z s h =
     elim (cases_Bool (c == 32)) [
-      inl t ↦ subst (λ x. front_mark (x ∷ z) ≡ None) (sym (eqb-true c 32 t)) refl
-    | inr f ↦ elim (cases_Bool (c == 9)) [
-        inl t ↦ subst (λ x. front_mark (x ∷ z) ≡ None) (sym (eqb-true c 9 t)) refl
-      | inr g ↦ elim (cases_Bool (c == 10)) [
-          inl t ↦ subst (λ x. front_mark (x ∷ z) ≡ None) (sym (eqb-true c 10 t)) refl
-        | inr k ↦ absurd (let e = rw (f, g, k) at h in cc)
+      | inl t ↦ subst (λ x. front_mark (x ∷ z) ≡ None) (sym (eqb-true c 32 t)) refl
+      | inr f ↦ elim (cases_Bool (c == 9)) [
+        | inl t ↦ subst (λ x. front_mark (x ∷ z) ≡ None) (sym (eqb-true c 9 t)) refl
+        | inr g ↦ elim (cases_Bool (c == 10)) [
+          | inl t ↦ subst (λ x. front_mark (x ∷ z) ≡ None) (sym (eqb-true c 10 t)) refl
+          | inr k ↦ absurd (let e = rw (f, g, k) at h in cc)
         ]
       ]
     ]

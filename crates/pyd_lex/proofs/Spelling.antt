@@ -1,5 +1,5 @@
 -- longest pieces and cuts: each text has one
-use Rattle.std.proofs.Common.{◌≡◌, ℕ, zero, suc, ◌+◌, ◌<◌, ◌≤◌, Bool, true, false, List, [], ◌∷◌, length, take, drop, refl, sym, ap, subst, ◌∙◌, arith, inl, inr, length-take-le, length-drop}
+use Rattle.std.proofs.Common.{◌≡◌, ℕ, zero, suc, ◌<◌, ◌≤◌, Bool, true, false, List, [], ◌∷◌, length, take, drop, refl, sym, ap, subst, ◌∙◌, arith, inl, inr, length-take-le, length-drop}
 use Rattle.std.proofs.lemmas.Bool.{cases_Bool, cases_eq, cases_order}
 use Rattle.pyd_lex.specs.declared.run.Class.{Class}
 use Rattle.pyd_lex.specs.declared.run.Class.TheVariants.{Return, Hash, Quote, Digit, Letter, Other}
@@ -11,27 +11,29 @@ pub last_exists : (test : ℕ → Bool) (bound : ℕ) → test 0 ≡ true → (n
 last_exists test zero h = (0, record { within = omega arith; here = h; beyond = λ j lt le. absurd (omega arith) })
 last_exists test (suc bound) h =
     elim (cases_Bool (test (suc bound))) [
-      inl t ↦ (suc bound, record { within = omega arith; here = t; beyond = λ j lt le. absurd (omega arith) })
-    | inr f ↦
-        let r = last_exists test bound h in
-        let last = r.1 in
-        (r.0, record {
-          within = let w = last.within in omega arith;
-          here = last.here;
-          beyond = λ j lt le. elim (cases_eq j (suc bound)) [
-            inl e ↦ ap test e ∙ f
-          | inr n ↦ last.beyond j lt (omega arith)
-          ];
-        })
+      | inl t ↦ (suc bound, record { within = omega arith; here = t; beyond = λ j lt le. absurd (omega arith) })
+      | inr f ↦
+          let r = last_exists test bound h in
+          let last = r.1 in (
+            r.0,
+            record {
+              within = let w = last.within in omega arith;
+              here = last.here;
+              beyond = λ j lt le. elim (cases_eq j (suc bound)) [
+                | inl e ↦ ap test e ∙ f
+                | inr n ↦ last.beyond j lt (omega arith)
+              ];
+            },
+          )
     ]
 
 pub last_unique : (test : ℕ → Bool) (bound n m : ℕ) → IsLast test bound n → IsLast test bound m → n ≡ m
 last_unique test bound n m a b =
     elim (cases_order n m) [
-      inl e ↦ e
-    | inr o ↦ elim o [
-        inl lt ↦ absurd (let f = a.beyond m lt b.within in let t = b.here in cc)
-      | inr lt ↦ absurd (let f = b.beyond n lt a.within in let t = a.here in cc)
+      | inl e ↦ e
+      | inr o ↦ elim o [
+        | inl lt ↦ absurd (let f = a.beyond m lt b.within in let t = b.here in cc)
+        | inr lt ↦ absurd (let f = b.beyond n lt a.within in let t = a.here in cc)
       ]
     ]
 
@@ -43,8 +45,8 @@ longest_from k c z n e x =
       within = let w = x.within in omega arith;
       here = ap (λ t. belong t c (take n z)) e ∙ x.here;
       beyond = λ j lt le. elim j as (λ i. suc n < i → i ≤ suc (length z) → is_piece (take i (c ∷ z)) ≡ false) [
-        zero ↦ λ l m. absurd (omega arith)
-      | suc i ↦ λ l m. ap (λ t. belong t c (take i z)) e ∙ x.beyond i (omega arith) (omega arith)
+        | zero ↦ λ l m. absurd (omega arith)
+        | suc i ↦ λ l m. ap (λ t. belong t c (take i z)) e ∙ x.beyond i (omega arith) (omega arith)
       ] lt le;
     }
 

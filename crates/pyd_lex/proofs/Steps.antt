@@ -1,7 +1,7 @@
 -- what a step of the scanner keeps
-use Rattle.std.proofs.Common.{◌≡◌, ℕ, zero, suc, ◌+◌, ◌-◌, ◌<◌, ◌≤◌, Bool, true, false, ◌==◌, nat_lt, List, [], ◌∷◌, ◌++◌, length, take, drop, reverse, get_or, Option, Some, None, Result, Ok, Err, OnOk, IfOk, IfErr, IsSome, refl, sym, ap, subst, ◌∙◌, arith, inl, inr, if◌then◌else◌, length-take-le, encode_utf8_all, take-append-drop, length-append}
+use Rattle.std.proofs.Common.{◌≡◌, ℕ, ◌+◌, ◌-◌, ◌<◌, ◌≤◌, Bool, true, false, ◌==◌, nat_lt, List, [], ◌∷◌, ◌++◌, length, take, drop, reverse, get_or, Option, Some, None, Result, Ok, Err, OnOk, IfOk, IfErr, IsSome, refl, sym, ap, subst, ◌∙◌, arith, inl, inr, length-take-le, encode_utf8_all, take-append-drop, length-append}
 use Rattle.std.specs.Option.{option_to_list}
-use Rattle.std.proofs.lemmas.List.{reverse-append, get_or-reverse, length-reverse}
+use Rattle.std.proofs.lemmas.List.{reverse-append, get_or-reverse}
 use Rattle.std.proofs.lemmas.Str.{encodes-append, encodes-chars, length-le-encodes}
 use Rattle.std.specs.Str.{IsUtf8, chars}
 use Rattle.pyd_lex.specs.declared.fault.Stop.{Stop}
@@ -15,8 +15,8 @@ use Rattle.pyd_lex.specs.declared.fault.LexFault.TheVariants as fault
 use Rattle.pyd_lex.specs.declared.fault.LexStop.{LexStop}
 use Rattle.pyd_lex.specs.declared.fault.LexStop.TheVariants as stop
 use Rattle.pyd_lex.specs.declared.place.Place.{Place}
-use Rattle.pyd_lex.specs.declared.scan.Mode.{Mode}
-use Rattle.pyd_lex.specs.declared.scan.Mode.TheVariants.{Margin, Inside}
+use Rattle.pyd_lex.specs.declared.mode.Mode.{Mode}
+use Rattle.pyd_lex.specs.declared.mode.Mode.TheVariants.{Margin, Inside}
 use Rattle.pyd_lex.specs.declared.token.Shape.{Shape}
 use Rattle.pyd_lex.specs.declared.token.Shape.TheVariants.{Space, Tab, Comment, Break, Token as Spelled}
 use Rattle.pyd_lex.specs.declared.token.Token.{Token}
@@ -25,12 +25,11 @@ use Rattle.pyd_lex.specs.declared.token.TokenKind.TheVariants as kind
 use Rattle.pyd_lex.specs.Words.{Text}
 use Rattle.pyd_lex.specs.Spelling.{IsCut, IsLongest}
 use Rattle.pyd_lex.specs.Meaning.{meaning}
-use Rattle.pyd_lex.specs.Lines.{Piece, Answer, ahead, shown, token_at, empty_at, fault_at, bracket, lowered, indented, top, closing, size, ends, is_end, after, placed, end_of, read}
-use Rattle.pyd_lex.specs.Scan.{run, started, unfinished, margin_after, Begins, Refuses, Takes, Halts, good, bad, count, SaysFrom, IsGood, IsFlawed, IfFlaw, IsFlaw}
+use Rattle.pyd_lex.specs.Lines.{Piece, Answer, ahead, shown, token_at, empty_at, fault_at, bracket, lowered, indented, top, closing, size, ends, is_end, after, placed, end_of}
+use Rattle.pyd_lex.specs.Scan.{run, started, unfinished, margin_after, Begins, Refuses, Takes, Halts, good, bad, SaysFrom, IsGood, IsFlawed, IfFlaw, IsFlaw}
 use Rattle.pyd_lex.specs.Reads.{Says, IfFault, is_marked}
 use Rattle.pyd_lex.proofs.Lines.{ahead_nil, ahead_ahead, run_reads}
 use Rattle.pyd_lex.proofs.Spelling.{cut_exists}
-use Rattle.pyd_lex.proofs.Pieces.{at_default}
 
 -- ---- answers
 

@@ -1,5 +1,5 @@
 -- where a string ends, step by step
-use Rattle.std.proofs.Common.{◌≡◌, ℕ, zero, suc, ◌+◌, ◌<◌, ◌≤◌, Bool, true, false, ◌&&◌, ◌||◌, ◌==◌, List, [], ◌∷◌, length, take, drop, get_or, nat_le, Option, Some, None, refl, sym, ap, subst, ◌∙◌, arith, inl, inr, length-take-le, if◌then◌else◌}
+use Rattle.std.proofs.Common.{◌≡◌, ℕ, zero, suc, ◌+◌, ◌<◌, ◌≤◌, Bool, true, false, ◌&&◌, ◌==◌, [], ◌∷◌, length, take, drop, get_or, nat_le, Option, Some, None, refl, sym, ap, subst, ◌∙◌, arith, inl, inr, length-take-le, if◌then◌else◌}
 use Rattle.std.proofs.lemmas.Bool.{cases_Bool, cases_lt, eqb-true, eq-eqb}
 use Rattle.std.proofs.Math.Bool.{or-false}
 use Rattle.std.specs.Str.{bytes_eq}
@@ -9,11 +9,11 @@ use Rattle.pyd_lex.specs.declared.run.Class.TheVariants.{Quote}
 use Rattle.pyd_lex.specs.declared.string.Part.{Part}
 use Rattle.pyd_lex.specs.declared.string.Part.TheVariants.{Close, Nul, Backslash, BareBreak, Plain}
 use Rattle.pyd_lex.specs.Words.{Text, begins}
-use Rattle.pyd_lex.specs.Strings.{part, part_of, part_at, inside, flaw, escape, one, three, is_triple, is_string, string_flaw, spelled, rest_of, more, is_break}
+use Rattle.pyd_lex.specs.Strings.{part, part_of, inside, flaw, escape, one, three, is_triple, is_string, string_flaw, spelled, rest_of, more, is_break}
 use Rattle.pyd_lex.specs.declared.string.Quotes.{Quotes}
 use Rattle.pyd_lex.specs.Spelling.{IsLast, Extends, belong}
 use Rattle.pyd_lex.specs.Ends.{Ends, IsBroken, Skips, spelling}
-use Rattle.pyd_lex.proofs.Words.{and_left, and_right, not_begins_take, begins_take, begins_longer, begins_front, begins_length, begins_itself, same_itself, differ_length}
+use Rattle.pyd_lex.proofs.Words.{and_left, and_right, not_begins_take, begins_longer, begins_front, begins_length, begins_itself, same_itself, differ_length}
 use Rattle.pyd_lex.proofs.Spelling.{last_exists}
 
 module _ (q : Text) where
@@ -29,8 +29,8 @@ module _ (q : Text) where
   pub part_kept : (z : Text) (c i : ℕ) (p : Part) → (p ≡ Close → ⊥) → part q (c ∷ z) ≡ p → part q (c ∷ take i z) ≡ p
   part_kept z c i p stays e =
       elim (cases_Bool (begins q (c ∷ z))) [
-        inl t ↦ absurd (stays (sym e ∙ part_close z c t))
-      | inr f ↦ part_is (take i z) c (not_begins_take q (c ∷ z) (suc i) f) ∙ sym (part_is z c f) ∙ e
+        | inl t ↦ absurd (stays (sym e ∙ part_close z c t))
+        | inr f ↦ part_is (take i z) c (not_begins_take q (c ∷ z) (suc i) f) ∙ sym (part_is z c f) ∙ e
       ]
 
   inside_plain : (c : ℕ) (v : Text) → part q (c ∷ v) ≡ Plain → inside q (c ∷ v) ≡ inside q v
@@ -65,8 +65,8 @@ module _ (q : Text) where
           within = let w = last.within in omega arith;
           here = inside_plain c (take n z) (part_kept z c n Plain not_plain e) ∙ last.here;
           beyond = λ j lt le. elim j as (λ i. suc n < i → i ≤ suc (length z) → inside q (take i (c ∷ z)) ≡ false) [
-            zero ↦ λ l m. absurd (omega arith)
-          | suc i ↦ λ l m. inside_plain c (take i z) (part_kept z c i Plain not_plain e) ∙ last.beyond i (omega arith) (omega arith)
+            | zero ↦ λ l m. absurd (omega arith)
+            | suc i ↦ λ l m. inside_plain c (take i z) (part_kept z c i Plain not_plain e) ∙ last.beyond i (omega arith) (omega arith)
           ] lt le;
         };
         flawed = flaw_plain c (take n z) (part_kept z c n Plain not_plain e) ∙ h.flawed;
@@ -81,10 +81,10 @@ module _ (q : Text) where
           within = let w = last.within in omega arith;
           here = inside_escape c d (take n z) (part_kept (d ∷ z) c (suc n) Backslash not_backslash e) ∙ last.here;
           beyond = λ j lt le. elim j as (λ i. suc (suc n) < i → i ≤ suc (suc (length z)) → inside q (take i (c ∷ d ∷ z)) ≡ false) [
-            zero ↦ λ l m. absurd (omega arith)
-          | suc i ↦ λ l m. elim i as (λ k. suc (suc n) < suc k → suc k ≤ suc (suc (length z)) → inside q (c ∷ take k (d ∷ z)) ≡ false) [
-              zero ↦ λ l m. absurd (omega arith)
-            | suc k ↦ λ l m. inside_escape c d (take k z) (part_kept (d ∷ z) c (suc k) Backslash not_backslash e) ∙ last.beyond k (omega arith) (omega arith)
+            | zero ↦ λ l m. absurd (omega arith)
+            | suc i ↦ λ l m. elim i as (λ k. suc (suc n) < suc k → suc k ≤ suc (suc (length z)) → inside q (c ∷ take k (d ∷ z)) ≡ false) [
+              | zero ↦ λ l m. absurd (omega arith)
+              | suc k ↦ λ l m. inside_escape c d (take k z) (part_kept (d ∷ z) c (suc k) Backslash not_backslash e) ∙ last.beyond k (omega arith) (omega arith)
             ] l m
           ] lt le;
         };
@@ -120,8 +120,8 @@ module _ (q : Text) where
   inside_itself : inside q q ≡ true
   inside_itself =
       elim (cases_lt 1 (length q)) [
-        inl l ↦ inside_close q (begins_itself q) l ∙ same_itself q
-      | inr l ↦ inside_short q l
+        | inl l ↦ inside_close q (begins_itself q) l ∙ same_itself q
+        | inr l ↦ inside_short q l
       ]
 
   -- the closing quotes are at the front
@@ -133,8 +133,8 @@ module _ (q : Text) where
           within = begins_length q z b;
           here = rw front inside_itself;
           beyond = λ j lt le.
-            let k = length-take-le j z le in
-            inside_close (take j z) (begins_longer q z j b (omega arith)) (omega arith) ∙ differ_length q (take j z) (omega arith);
+              let k = length-take-le j z le in
+              inside_close (take j z) (begins_longer q z j b (omega arith)) (omega arith) ∙ differ_length q (take j z) (omega arith);
         };
         flawed = rw front (flaw_close q l (begins_itself q));
       }
@@ -165,11 +165,13 @@ module _ (q : Text) where
   broken_by : (c : ℕ) (z : Text) (f : Flaw) → ((i : ℕ) → flaw q (c ∷ take i z) ≡ Some f) → IsBroken q (c ∷ z) f
   unfolding inside
   broken_by c z f h =
-      let r = ends_some (c ∷ z) in
-      (r.0, record {
-        last = r.1;
-        flawed = first_kept c z r.0 (Some f) (at_least (c ∷ z) r.0 1 r.1 (omega arith) refl) h;
-      })
+      let r = ends_some (c ∷ z) in (
+        r.0,
+        record {
+          last = r.1;
+          flawed = first_kept c z r.0 (Some f) (at_least (c ∷ z) r.0 1 r.1 (omega arith) refl) h;
+        },
+      )
 
   pub broken_nul : (c : ℕ) (z : Text) → part q (c ∷ z) ≡ Nul → IsBroken q (c ∷ z) BadChar
   broken_nul c z e = broken_by c z BadChar (λ i. flaw_nul c (take i z) (part_kept z c i Nul (λ x. cc) e))
@@ -192,8 +194,8 @@ module _ (q : Text) where
   unfolding inside
   broken_escape c d z e h =
       broken_by c (d ∷ z) BadString (λ i. elim i as (λ k. flaw q (c ∷ take k (d ∷ z)) ≡ Some BadString) [
-        zero ↦ flaw_alone c (part_kept (d ∷ z) c 0 Backslash not_backslash e)
-      | suc k ↦ flaw_bad c d (take k z) (part_kept (d ∷ z) c (suc k) Backslash not_backslash e) h
+        | zero ↦ flaw_alone c (part_kept (d ∷ z) c 0 Backslash not_backslash e)
+        | suc k ↦ flaw_bad c d (take k z) (part_kept (d ∷ z) c (suc k) Backslash not_backslash e) h
       ])
 
 one_after : (n : ℕ) → suc n ≡ 1 + n
@@ -212,10 +214,10 @@ module _ (q : Text) where
   not_close : (c : ℕ) → part_of q c ≡ Close → ⊥
   not_close c e =
       elim (cases_Bool (c == 0)) [
-        inl t ↦ let k = rw t at e in cc
-      | inr f ↦ elim (cases_Bool (c == 92)) [
-          inl t ↦ let k = rw (f, t) at e in cc
-        | inr g ↦ let k = rw (f, g) at e in bare (is_break c && nat_le (length q) 1) c k
+        | inl t ↦ let k = rw t at e in cc
+        | inr f ↦ elim (cases_Bool (c == 92)) [
+          | inl t ↦ let k = rw (f, t) at e in cc
+          | inr g ↦ let k = rw (f, g) at e in bare (is_break c && nat_le (length q) 1) c k
         ]
       ]
 
@@ -239,8 +241,8 @@ module _ (q : Text) where
   step_close [] l e = absurd (omega arith)
   step_close (c ∷ z) l e =
       elim (cases_Bool (begins q (c ∷ z))) [
-        inl t ↦ t
-      | inr f ↦ absurd (let k = sym (part_is q z c f) ∙ e in not_close c k)
+        | inl t ↦ t
+        | inr f ↦ absurd (let k = sym (part_is q z c f) ∙ e in not_close c k)
       ]
 
   pub step_end : (text : Text) → 0 < length text → length text ≡ 1 → part q text ≡ Backslash → IsBroken q text BadString
@@ -294,44 +296,48 @@ module _ (c : ℕ) where
   pub string_triple : (rest : Text) (n : ℕ) (f : Option Flaw) → Ends (three c) rest n f → Extends Quote c (c ∷ c ∷ rest) (suc (suc n)) × (string_flaw c (take (suc (suc n)) (c ∷ c ∷ rest)) ≡ f)
   unfolding belong inside
   string_triple rest n f h =
-      let last = h.last in
-      (record {
-        within = let w = last.within in omega arith;
-        here = triple_string (take n rest) ∙ last.here;
-        beyond = λ j lt le. elim j as (λ i. suc (suc n) < i → i ≤ suc (suc (length rest)) → is_string c (take i (c ∷ c ∷ rest)) ≡ false) [
-          zero ↦ λ l m. absurd (omega arith)
-        | suc i ↦ λ l m. elim i as (λ k. suc (suc n) < suc k → suc k ≤ suc (suc (length rest)) → is_string c (c ∷ take k (c ∷ rest)) ≡ false) [
-            zero ↦ λ l m. absurd (omega arith)
-          | suc k ↦ λ l m. triple_string (take k rest) ∙ last.beyond k (omega arith) (omega arith)
-          ] l m
-        ] lt le;
-      }, triple_flaw (take n rest) ∙ h.flawed)
+      let last = h.last in (
+        record {
+          within = let w = last.within in omega arith;
+          here = triple_string (take n rest) ∙ last.here;
+          beyond = λ j lt le. elim j as (λ i. suc (suc n) < i → i ≤ suc (suc (length rest)) → is_string c (take i (c ∷ c ∷ rest)) ≡ false) [
+            | zero ↦ λ l m. absurd (omega arith)
+            | suc i ↦ λ l m. elim i as (λ k. suc (suc n) < suc k → suc k ≤ suc (suc (length rest)) → is_string c (c ∷ take k (c ∷ rest)) ≡ false) [
+              | zero ↦ λ l m. absurd (omega arith)
+              | suc k ↦ λ l m. triple_string (take k rest) ∙ last.beyond k (omega arith) (omega arith)
+            ] l m
+          ] lt le;
+        },
+        triple_flaw (take n rest) ∙ h.flawed,
+      )
 
   pub string_single : (z : Text) (n : ℕ) (f : Option Flaw) → is_triple c z ≡ false → Ends (one c) z n f → Extends Quote c z n × (string_flaw c (take n z) ≡ f)
   unfolding belong
   string_single z n f h e =
-      let last = e.last in
-      (record {
-        within = last.within;
-        here = single_string (take n z) (not_begins_take (c ∷ c ∷ []) z n h) ∙ last.here;
-        beyond = λ j lt le. single_string (take j z) (not_begins_take (c ∷ c ∷ []) z j h) ∙ last.beyond j lt le;
-      }, (let g = not_begins_take (c ∷ c ∷ []) z n h in rw g e.flawed))
+      let last = e.last in (
+        record {
+          within = last.within;
+          here = single_string (take n z) (not_begins_take (c ∷ c ∷ []) z n h) ∙ last.here;
+          beyond = λ j lt le. single_string (take j z) (not_begins_take (c ∷ c ∷ []) z j h) ∙ last.beyond j lt le;
+        },
+        (let g = not_begins_take (c ∷ c ∷ []) z n h in rw g e.flawed),
+      )
 
   -- after the quotes that are there
   pub string_ends : (z : Text) (n : ℕ) (f : Option Flaw) → Ends (spelled (is_triple c z) c) (rest_of (is_triple c z) z) n f → Extends Quote c z (more (is_triple c z) + n) × (string_flaw c (take (more (is_triple c z) + n) z) ≡ f)
   string_ends z n f h =
       elim (cases_Bool (is_triple c z)) [
-        inl t ↦
-          let g : Ends (three c) (drop 2 z) n f = subst (λ b. Ends (spelled b c) (rest_of b z) n f) t h in
-          let r = string_triple (drop 2 z) n f g in
-          subst (λ b. Extends Quote c z (more b + n) × (string_flaw c (take (more b + n) z) ≡ f)) (sym t)
-          (subst (λ m. Extends Quote c z m × (string_flaw c (take m z) ≡ f)) (two_after n)
-          (subst (λ y. Extends Quote c y (suc (suc n)) × (string_flaw c (take (suc (suc n)) y) ≡ f)) (sym (two z t)) r))
-      | inr e ↦
-          let g : Ends (one c) z n f = subst (λ b. Ends (spelled b c) (rest_of b z) n f) e h in
-          let r = string_single z n f e g in
-          subst (λ b. Extends Quote c z (more b + n) × (string_flaw c (take (more b + n) z) ≡ f)) (sym e)
-          (subst (λ m. Extends Quote c z m × (string_flaw c (take m z) ≡ f)) (none_more n) r)
+        | inl t ↦
+            let g : Ends (three c) (drop 2 z) n f = subst (λ b. Ends (spelled b c) (rest_of b z) n f) t h in
+            let r = string_triple (drop 2 z) n f g in
+            subst (λ b. Extends Quote c z (more b + n) × (string_flaw c (take (more b + n) z) ≡ f)) (sym t)
+            (subst (λ m. Extends Quote c z m × (string_flaw c (take m z) ≡ f)) (two_after n)
+            (subst (λ y. Extends Quote c y (suc (suc n)) × (string_flaw c (take (suc (suc n)) y) ≡ f)) (sym (two z t)) r))
+        | inr e ↦
+            let g : Ends (one c) z n f = subst (λ b. Ends (spelled b c) (rest_of b z) n f) e h in
+            let r = string_single z n f e g in
+            subst (λ b. Extends Quote c z (more b + n) × (string_flaw c (take (more b + n) z) ≡ f)) (sym e)
+            (subst (λ m. Extends Quote c z m × (string_flaw c (take m z) ≡ f)) (none_more n) r)
       ]
 
 -- a string by its quotes and what is after them

@@ -1,6 +1,6 @@
 -- one answer, and one for all bytes
-use Rattle.std.proofs.Common.{◌≡◌, ℕ, Bool, true, false, List, [], ◌∷◌, Result, Ok, Err, refl, sym, ap, subst, ◌∙◌, inl, inr}
-use Rattle.std.specs.Str.{IsUtf8, chars, is_utf8}
+use Rattle.std.proofs.Common.{◌≡◌, Err, refl, sym, ap, ◌∙◌, inl, inr}
+use Rattle.std.specs.Str.{chars, is_utf8}
 use Rattle.std.specs.Str.Lossy.{utf8_valid_len}
 use Rattle.std.proofs.lemmas.Str.{IsUtf8-from_is_utf8, is_utf8-from_IsUtf8}
 use Rattle.std.proofs.lemmas.Bool.{cases_Bool}
@@ -8,7 +8,7 @@ use Rattle.pyd_lex.specs.declared.place.Place.{Place}
 use Rattle.pyd_lex.specs.declared.fault.LexFault.TheVariants.{Utf8}
 use Rattle.pyd_lex.specs.Words.{Text}
 use Rattle.pyd_lex.specs.Lines.{Answer, read}
-use Rattle.pyd_lex.specs.Reads.{Reads, Says, start, unmarked}
+use Rattle.pyd_lex.specs.Reads.{Says, start, unmarked}
 use Rattle.pyd_lex.specs.Laws.{OneAnswer, AnAnswer}
 use Rattle.pyd_lex.proofs.Spelling.{cut_exists, cut_unique}
 
@@ -24,9 +24,9 @@ one_answer bytes a b (inr x) (inr y) = says_one (start (chars bytes)) (unmarked 
 pub an_answer : AnAnswer
 an_answer bytes =
     elim (cases_Bool (is_utf8 bytes)) [
-      inl t ↦
-        let text = unmarked (chars bytes) in
-        let cut = cut_exists text in
-        (read (start (chars bytes)) cut.0, inr (IsUtf8-from_is_utf8 bytes t, (cut.0, cut.1, refl)))
-    | inr f ↦ (Err (Utf8 (utf8_valid_len bytes)), inl (λ u. absurd (let t = is_utf8-from_IsUtf8 bytes u in cc), refl))
+      | inl t ↦
+          let text = unmarked (chars bytes) in
+          let cut = cut_exists text in
+          (read (start (chars bytes)) cut.0, inr (IsUtf8-from_is_utf8 bytes t, (cut.0, cut.1, refl)))
+      | inr f ↦ (Err (Utf8 (utf8_valid_len bytes)), inl (λ u. absurd (let t = is_utf8-from_IsUtf8 bytes u in cc), refl))
     ]

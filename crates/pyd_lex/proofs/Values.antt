@@ -1,9 +1,8 @@
 -- the value of a string, character by character
-use Rattle.std.proofs.Common.{◌≡◌, ℕ, zero, suc, ◌+◌, ◌≤◌, Bool, true, false, ◌==◌, List, [], ◌∷◌, length, drop, Option, Some, None, refl, sym, ap, subst, ◌∙◌, arith, inl, inr, if◌then◌else◌, ◌++◌, ◌<◌, get_or, encode_utf8_all, append_assoc, append-nil}
+use Rattle.std.proofs.Common.{◌≡◌, ℕ, ◌≤◌, Bool, true, false, ◌==◌, List, [], ◌∷◌, length, drop, Option, Some, None, refl, sym, ap, subst, ◌∙◌, arith, if◌then◌else◌, ◌++◌, ◌<◌, get_or, encode_utf8_all, append_assoc, append-nil}
 use Rattle.std.specs.Prelude.{encode_utf8}
 use Rattle.pyd_lex.specs.declared.string.Quotes.{Quotes}
 use Rattle.pyd_lex.specs.Ends.{spelling}
-use Rattle.std.proofs.lemmas.Bool.{cases_Bool}
 use Rattle.pyd_lex.specs.declared.string.Part.{Part}
 use Rattle.pyd_lex.specs.declared.string.Part.TheVariants.{Close, Nul, Backslash, BareBreak, Plain}
 use Rattle.pyd_lex.specs.Words.{Text}

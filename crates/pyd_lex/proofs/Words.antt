@@ -1,5 +1,5 @@
 -- texts that begin with a spelling, and rows that are found by their spelling
-use Rattle.std.proofs.Common.{◌≡◌, ℕ, zero, suc, ◌+◌, ◌<◌, ◌≤◌, Bool, true, false, ◌&&◌, ◌==◌, nat_le, List, [], ◌∷◌, length, take, Option, Some, None, refl, sym, ap, subst, ◌∙◌, arith, length-take-le, inl, inr, if◌then◌else◌}
+use Rattle.std.proofs.Common.{◌≡◌, ℕ, zero, suc, ◌<◌, ◌≤◌, Bool, true, false, ◌&&◌, ◌==◌, nat_le, List, [], ◌∷◌, length, take, Some, None, refl, sym, ap, subst, ◌∙◌, arith, length-take-le, inl, inr, if◌then◌else◌}
 use Rattle.std.specs.List.{list_all}
 use Rattle.std.specs.Str.{bytes_eq}
 use Rattle.std.proofs.lemmas.Slice.Eq.{bytes_eq-Decides}
@@ -78,7 +78,7 @@ begins_itself s = begins_same s s refl ∙ same_itself s
 differ_front : (s z : Text) (j : ℕ) → begins s z ≡ false → bytes_eq s (take j z) ≡ false
 differ_front s z j h =
     differ s (take j z) (λ e.
-      let b = begins_take s z j (subst (λ t. begins s t ≡ true) e (begins_itself s)) in cc)
+    let b = begins_take s z j (subst (λ t. begins s t ≡ true) e (begins_itself s)) in cc)
 
 pub some_is : {A : Type 0} (x y : A) → Some x ≡ Some y → x ≡ y
 some_is x y e = cc
@@ -88,11 +88,11 @@ module _ {X : Type 0} where
   no_front [] z j h = refl
   no_front (row ∷ rows) z j h =
       elim (cases_Bool (begins row.0 z)) [
-        inl t ↦ absurd (let e = subst (λ b. (if b then Some (length row.0, row.1) else first_front rows z) ≡ None) t h in cc)
-      | inr f ↦
-          let e = subst (λ b. (if b then Some (length row.0, row.1) else first_front rows z) ≡ None) f h in
-          let g = differ_front row.0 z j f in
-          rw g (no_front rows z j e)
+        | inl t ↦ absurd (let e = subst (λ b. (if b then Some (length row.0, row.1) else first_front rows z) ≡ None) t h in cc)
+        | inr f ↦
+            let e = subst (λ b. (if b then Some (length row.0, row.1) else first_front rows z) ≡ None) f h in
+            let g = differ_front row.0 z j f in
+            rw g (no_front rows z j e)
       ]
 
   -- each spelling is at most this long
@@ -121,26 +121,26 @@ module _ {X : Type 0} where
   front_row [] z n x d h = cc
   front_row (row ∷ rows) z n x d h =
       elim (cases_Bool (begins row.0 z)) [
-        inl t ↦
-          let e = subst (λ b. (if b then Some (length row.0, row.1) else first_front rows z) ≡ Some (n, x)) t h in
-          let pair = some_is {A = ℕ × X} (length row.0, row.1) (n, x) e in
-          let len : length row.0 ≡ n = ap (λ p. p.0) pair in
-          let val : row.1 ≡ x = ap (λ p. p.1) pair in
-          let front : take n z ≡ row.0 = subst (λ m. take m z ≡ row.0) len (begins_front row.0 z t) in
-          record {
-            within = subst (λ m. m ≤ length z) len (begins_length row.0 z t);
-            here = rw front (rw (same_itself row.0) (ap Some val));
-            beyond = λ j lt le.
-              let lj = length-take-le j z le in
-              let g = differ_length row.0 (take j z) (omega arith) in
-              rw g (too_long (length row.0) rows (take j z) (and_left (up_to (length row.0) rows) (descending rows) d) (omega arith));
-          }
-      | inr f ↦
-          let e = subst (λ b. (if b then Some (length row.0, row.1) else first_front rows z) ≡ Some (n, x)) f h in
-          let r = front_row rows z n x (and_right (up_to (length row.0) rows) (descending rows) d) e in
-          record {
-            within = r.within;
-            here = let g = differ_front row.0 z n f in rw g r.here;
-            beyond = λ j lt le. let g = differ_front row.0 z j f in rw g (r.beyond j lt le);
-          }
+        | inl t ↦
+            let e = subst (λ b. (if b then Some (length row.0, row.1) else first_front rows z) ≡ Some (n, x)) t h in
+            let pair = some_is {A = ℕ × X} (length row.0, row.1) (n, x) e in
+            let len : length row.0 ≡ n = ap (λ p. p.0) pair in
+            let val : row.1 ≡ x = ap (λ p. p.1) pair in
+            let front : take n z ≡ row.0 = subst (λ m. take m z ≡ row.0) len (begins_front row.0 z t) in
+            record {
+              within = subst (λ m. m ≤ length z) len (begins_length row.0 z t);
+              here = rw front (rw (same_itself row.0) (ap Some val));
+              beyond = λ j lt le.
+                  let lj = length-take-le j z le in
+                  let g = differ_length row.0 (take j z) (omega arith) in
+                  rw g (too_long (length row.0) rows (take j z) (and_left (up_to (length row.0) rows) (descending rows) d) (omega arith));
+            }
+        | inr f ↦
+            let e = subst (λ b. (if b then Some (length row.0, row.1) else first_front rows z) ≡ Some (n, x)) f h in
+            let r = front_row rows z n x (and_right (up_to (length row.0) rows) (descending rows) d) e in
+            record {
+              within = r.within;
+              here = let g = differ_front row.0 z n f in rw g r.here;
+              beyond = λ j lt le. let g = differ_front row.0 z j f in rw g (r.beyond j lt le);
+            }
       ]

@@ -1,5 +1,5 @@
 -- where a string ends, from after its opening quotes on
-use Rattle.std.specs.Prelude.{◌≡◌, ℕ, ◌+◌, ◌≤◌, length, take, drop, Option, Some, None, true}
+use Rattle.std.specs.Prelude.{◌≡◌, ℕ, ◌+◌, ◌≤◌, length, take, drop, Option, Some, true}
 use Rattle.pyd_lex.specs.declared.fault.Flaw.{Flaw}
 use Rattle.pyd_lex.specs.declared.string.Quotes.{Quotes}
 use Rattle.pyd_lex.specs.declared.string.Step.{Step}

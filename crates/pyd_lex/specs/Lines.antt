@@ -6,7 +6,6 @@ use Rattle.pyd_lex.specs.declared.fault.LexFault.{LexFault}
 use Rattle.pyd_lex.specs.declared.fault.LexFault.TheVariants as fault
 use Rattle.pyd_lex.specs.declared.mark.Mark.TheVariants.{LeftParen, RightParen, LeftBracket, RightBracket}
 use Rattle.pyd_lex.specs.declared.place.Place.{Place}
-use Rattle.pyd_lex.specs.declared.token.Shape.{Shape}
 use Rattle.pyd_lex.specs.declared.token.Shape.TheVariants.{Space, Tab, Comment, Break, Token as Spelled}
 use Rattle.pyd_lex.specs.declared.token.Token.{Token}
 use Rattle.pyd_lex.specs.declared.token.TokenKind.{TokenKind}
@@ -122,16 +121,16 @@ unfoldable pub said : Place → Bool → ℕ → Line → Answer → Answer
 said end loud depth [] later = ahead (shown (loud && (depth == 0)) (empty_at kind.Newline end)) later
 said end loud depth (p ∷ ps) later =
     elim (p.means) [
-      Err f ↦ Err (fault_at f p.at)
-    | Ok s ↦ elim s [
-        Spelled k ↦ ahead (shown loud (token_at k p)) (said end loud (bracket depth k) ps later)
-      | Break ↦ elim (depth == 0) [
-          true ↦ ahead (shown loud (token_at kind.Newline p)) later
-        | false ↦ said end loud depth ps later
+      | Err f ↦ Err (fault_at f p.at)
+      | Ok s ↦ elim s [
+        | Spelled k ↦ ahead (shown loud (token_at k p)) (said end loud (bracket depth k) ps later)
+        | Break ↦ elim (depth == 0) [
+          | true ↦ ahead (shown loud (token_at kind.Newline p)) later
+          | false ↦ said end loud depth ps later
         ]
-      | Space ↦ said end loud depth ps later
-      | Tab ↦ said end loud depth ps later
-      | Comment ↦ said end loud depth ps later
+        | Space ↦ said end loud depth ps later
+        | Tab ↦ said end loud depth ps later
+        | Comment ↦ said end loud depth ps later
       ]
     ]
 
@@ -186,10 +185,10 @@ unfoldable pub line_said : Place → Line → ℕ → Bool → List ℕ → (Lis
 line_said end [] w tab ws later = later ws
 line_said end (p ∷ ps) w tab ws later =
     elim (is_silent p.means) [
-      true ↦ said end false 0 (p ∷ ps) (later ws)
-    | false ↦ elim tab [
-        true ↦ Err (fault.Tab p.at.line)
-      | false ↦ indented w p.at ws (λ vs. said end true 0 (p ∷ ps) (later vs))
+      | true ↦ said end false 0 (p ∷ ps) (later ws)
+      | false ↦ elim tab [
+        | true ↦ Err (fault.Tab p.at.line)
+        | false ↦ indented w p.at ws (λ vs. said end true 0 (p ∷ ps) (later vs))
       ]
     ]
 

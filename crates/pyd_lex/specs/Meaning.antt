@@ -1,5 +1,5 @@
 -- what a piece of the text means
-use Rattle.std.specs.Prelude.{ℕ, Bool, true, false, ◌==◌, List, [], ◌∷◌, Option, Some, None, Result, Ok, Err, if◌then◌else◌}
+use Rattle.std.specs.Prelude.{ℕ, Bool, ◌==◌, [], ◌∷◌, Option, Some, None, Result, Ok, Err, if◌then◌else◌}
 use Rattle.std.specs.Str.{bytes_eq}
 use Rattle.unicode_normalization.specs.Forms.{nfkc}
 use Rattle.pyd_lex.specs.declared.fault.Flaw.{Flaw}

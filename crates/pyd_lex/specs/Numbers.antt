@@ -1,5 +1,5 @@
 -- integer literals
-use Rattle.std.specs.Prelude.{ℕ, ◌+◌, ◌*◌, ◌^◌, Bool, true, false, not, ◌&&◌, ◌||◌, ◌==◌, nat_lt, List, [], ◌∷◌, drop, pos, Option, Some, None, Result, Ok, Err, if◌then◌else◌}
+use Rattle.std.specs.Prelude.{ℕ, ◌+◌, ◌*◌, ◌^◌, Bool, true, false, not, ◌&&◌, ◌||◌, ◌==◌, nat_lt, [], ◌∷◌, drop, pos, Option, Some, None, Result, Ok, Err, if◌then◌else◌}
 use Rattle.std.specs.Char.{digit_value, is_digit}
 use Rattle.std.specs.Str.{bytes_eq}
 use Rattle.pyd_lex.specs.declared.fault.Flaw.{Flaw}
@@ -31,8 +31,8 @@ is_spread base [] = true
 is_spread base (c ∷ []) = not (c == 95) && is_digit c base
 is_spread base (c ∷ d ∷ z) =
     elim (c == 95) [
-      true ↦ is_digit d base && is_spread base z
-    | false ↦ is_digit c base && is_spread base (d ∷ z)
+      | true ↦ is_digit d base && is_spread base z
+      | false ↦ is_digit c base && is_spread base (d ∷ z)
     ]
 
 -- the value of the digits after those of value n

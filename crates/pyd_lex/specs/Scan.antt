@@ -1,5 +1,5 @@
 -- the scanner's steps over pieces, which give what the lines give
-use Rattle.std.specs.Prelude.{◌≡◌, ℕ, ◌+◌, ◌-◌, ◌≤◌, Bool, true, false, ◌&&◌, ◌==◌, List, [], ◌∷◌, ◌++◌, length, take, Result, Ok, Err}
+use Rattle.std.specs.Prelude.{◌≡◌, ℕ, ◌+◌, ◌≤◌, Bool, true, false, ◌&&◌, ◌==◌, List, [], ◌∷◌, take, Ok, Err}
 use Rattle.pyd_lex.specs.declared.fault.LexFault.{LexFault}
 use Rattle.pyd_lex.specs.declared.fault.LexFault.TheVariants as fault
 use Rattle.pyd_lex.specs.declared.fault.Flaw.{Flaw}
@@ -7,15 +7,15 @@ use Rattle.pyd_lex.specs.declared.fault.Stop.{Stop}
 use Rattle.pyd_lex.specs.declared.fault.Stop.TheVariants as stop
 use Rattle.pyd_lex.specs.declared.place.Place.{Place}
 use Rattle.pyd_lex.specs.declared.run.Class.{Class}
-use Rattle.pyd_lex.specs.declared.scan.Mode.{Mode}
-use Rattle.pyd_lex.specs.declared.scan.Mode.TheVariants.{Margin, Inside}
+use Rattle.pyd_lex.specs.declared.mode.Mode.{Mode}
+use Rattle.pyd_lex.specs.declared.mode.Mode.TheVariants.{Margin, Inside}
 use Rattle.pyd_lex.specs.declared.token.Shape.{Shape}
 use Rattle.pyd_lex.specs.declared.token.Shape.TheVariants.{Space, Tab, Comment, Break, Token as Spelled}
 use Rattle.pyd_lex.specs.declared.token.Token.{Token}
 use Rattle.pyd_lex.specs.declared.token.TokenKind.TheVariants as kind
 use Rattle.pyd_lex.specs.Words.{Text}
 use Rattle.pyd_lex.specs.Spelling.{class_of, IsLongest, IsCut}
-use Rattle.pyd_lex.specs.Meaning.{Judged, meaning}
+use Rattle.pyd_lex.specs.Meaning.{meaning}
 use Rattle.pyd_lex.specs.Lines.{Piece, Answer, placed, end_of, ahead, empty_at, token_at, fault_at, shown, bracket, indented, closing}
 
 -- where the flaw is one, and not want of memory
@@ -71,27 +71,27 @@ unfoldable pub run : Place → List Piece → Mode → List ℕ → Answer
 run end [] mode ws = ahead (unfinished mode end) (Ok (closing end ws))
 run end (p ∷ ps) (Margin width tab) ws =
     elim (p.means) [
-      Err f ↦ started tab width p.at ws (λ vs. Err (fault_at f p.at))
-    | Ok s ↦ elim s [
-        Spelled k ↦ started tab width p.at ws (λ vs. ahead (token_at k p ∷ []) (run end ps (Inside (bracket 0 k) true) vs))
-      | Break ↦ run end ps (Margin 0 false) ws
-      | Space ↦ run end ps (Margin (width + 1) tab) ws
-      | Tab ↦ run end ps (Margin (width + 1) true) ws
-      | Comment ↦ run end ps (Inside 0 false) ws
+      | Err f ↦ started tab width p.at ws (λ vs. Err (fault_at f p.at))
+      | Ok s ↦ elim s [
+        | Spelled k ↦ started tab width p.at ws (λ vs. ahead (token_at k p ∷ []) (run end ps (Inside (bracket 0 k) true) vs))
+        | Break ↦ run end ps (Margin 0 false) ws
+        | Space ↦ run end ps (Margin (width + 1) tab) ws
+        | Tab ↦ run end ps (Margin (width + 1) true) ws
+        | Comment ↦ run end ps (Inside 0 false) ws
       ]
     ]
 run end (p ∷ ps) (Inside depth loud) ws =
     elim (p.means) [
-      Err f ↦ Err (fault_at f p.at)
-    | Ok s ↦ elim s [
-        Spelled k ↦ ahead (shown loud (token_at k p)) (run end ps (Inside (bracket depth k) loud) ws)
-      | Break ↦ elim (depth == 0) [
-          true ↦ ahead (shown loud (token_at kind.Newline p)) (run end ps (Margin 0 false) ws)
-        | false ↦ run end ps (Inside depth loud) ws
+      | Err f ↦ Err (fault_at f p.at)
+      | Ok s ↦ elim s [
+        | Spelled k ↦ ahead (shown loud (token_at k p)) (run end ps (Inside (bracket depth k) loud) ws)
+        | Break ↦ elim (depth == 0) [
+          | true ↦ ahead (shown loud (token_at kind.Newline p)) (run end ps (Margin 0 false) ws)
+          | false ↦ run end ps (Inside depth loud) ws
         ]
-      | Space ↦ run end ps (Inside depth loud) ws
-      | Tab ↦ run end ps (Inside depth loud) ws
-      | Comment ↦ run end ps (Inside depth loud) ws
+        | Space ↦ run end ps (Inside depth loud) ws
+        | Tab ↦ run end ps (Inside depth loud) ws
+        | Comment ↦ run end ps (Inside depth loud) ws
       ]
     ]
 

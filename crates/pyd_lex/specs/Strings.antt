@@ -1,5 +1,5 @@
 -- strings, from after their opening quotes on
-use Rattle.std.specs.Prelude.{ℕ, Bool, true, false, ◌&&◌, ◌||◌, ◌==◌, nat_le, List, [], ◌∷◌, length, take, drop, Option, Some, None, if◌then◌else◌}
+use Rattle.std.specs.Prelude.{ℕ, Bool, true, false, ◌&&◌, ◌||◌, ◌==◌, nat_le, [], ◌∷◌, length, drop, Option, Some, None, if◌then◌else◌}
 use Rattle.std.specs.Str.{bytes_eq}
 use Rattle.pyd_lex.specs.declared.fault.Flaw.{Flaw}
 use Rattle.pyd_lex.specs.declared.fault.Flaw.TheVariants.{BadChar, BadString}
@@ -33,11 +33,11 @@ inside quotes [] = true
 inside quotes (c ∷ []) = true
 inside quotes (c ∷ d ∷ z) =
     elim (part quotes (c ∷ d ∷ z)) [
-      Close ↦ bytes_eq quotes (c ∷ d ∷ z)
-    | Backslash ↦ inside quotes z
-    | Nul ↦ inside quotes (d ∷ z)
-    | BareBreak ↦ inside quotes (d ∷ z)
-    | Plain ↦ inside quotes (d ∷ z)
+      | Close ↦ bytes_eq quotes (c ∷ d ∷ z)
+      | Backslash ↦ inside quotes z
+      | Nul ↦ inside quotes (d ∷ z)
+      | BareBreak ↦ inside quotes (d ∷ z)
+      | Plain ↦ inside quotes (d ∷ z)
     ]
 
 -- the character that a letter stands for after a backslash
@@ -54,19 +54,19 @@ unfoldable pub flaw : Text → Text → Option Flaw
 flaw quotes [] = Some BadString
 flaw quotes (c ∷ []) =
     elim (part quotes (c ∷ [])) [
-      Close ↦ None
-    | Nul ↦ Some BadChar
-    | Backslash ↦ Some BadString
-    | BareBreak ↦ Some BadString
-    | Plain ↦ Some BadString
+      | Close ↦ None
+      | Nul ↦ Some BadChar
+      | Backslash ↦ Some BadString
+      | BareBreak ↦ Some BadString
+      | Plain ↦ Some BadString
     ]
 flaw quotes (c ∷ d ∷ z) =
     elim (part quotes (c ∷ d ∷ z)) [
-      Close ↦ None
-    | Nul ↦ Some BadChar
-    | Backslash ↦ elim (escape d) [ None ↦ Some BadString | Some e ↦ flaw quotes z ]
-    | BareBreak ↦ Some BadString
-    | Plain ↦ flaw quotes (d ∷ z)
+      | Close ↦ None
+      | Nul ↦ Some BadChar
+      | Backslash ↦ elim (escape d) [ None ↦ Some BadString | Some e ↦ flaw quotes z ]
+      | BareBreak ↦ Some BadString
+      | Plain ↦ flaw quotes (d ∷ z)
     ]
 
 -- the characters that the string stands for; a line end, also of two characters, is a line feed
@@ -74,21 +74,21 @@ unfoldable pub value : Text → Text → Text
 value quotes [] = []
 value quotes (c ∷ []) =
     elim (part quotes (c ∷ [])) [
-      Close ↦ []
-    | Nul ↦ []
-    | Backslash ↦ []
-    | BareBreak ↦ []
-    | Plain ↦ (if c == 13 then 10 else c) ∷ []
+      | Close ↦ []
+      | Nul ↦ []
+      | Backslash ↦ []
+      | BareBreak ↦ []
+      | Plain ↦ (if c == 13 then 10 else c) ∷ []
     ]
 value quotes (c ∷ d ∷ z) =
     elim (part quotes (c ∷ d ∷ z)) [
-      Close ↦ []
-    | Nul ↦ []
-    | Backslash ↦ elim (escape d) [ None ↦ [] | Some e ↦ e ∷ value quotes z ]
-    | BareBreak ↦ []
-    | Plain ↦ elim (c == 13) [
-        true ↦ elim (d == 10) [ true ↦ 10 ∷ value quotes z | false ↦ 10 ∷ value quotes (d ∷ z) ]
-      | false ↦ c ∷ value quotes (d ∷ z)
+      | Close ↦ []
+      | Nul ↦ []
+      | Backslash ↦ elim (escape d) [ None ↦ [] | Some e ↦ e ∷ value quotes z ]
+      | BareBreak ↦ []
+      | Plain ↦ elim (c == 13) [
+        | true ↦ elim (d == 10) [ true ↦ 10 ∷ value quotes z | false ↦ 10 ∷ value quotes (d ∷ z) ]
+        | false ↦ c ∷ value quotes (d ∷ z)
       ]
     ]
 
@@ -105,7 +105,6 @@ is_triple c z = begins (c ∷ c ∷ []) z
 -- the quotes, and the text after all of them
 abbrev pub spelled : Bool → ℕ → Text
 spelled triple c = if triple then three c else one c
-
 
 abbrev pub more : Bool → ℕ
 more triple = if triple then 2 else 0

@@ -2,17 +2,21 @@
 #![tactic(auto)]
 
 mod cut;
+mod ending;
 mod fault;
 mod laws;
 mod mark;
+mod mode;
 mod name;
 mod number;
 mod place;
 mod run;
 mod scan;
+mod scanner;
 mod string;
 mod text;
 mod token;
+mod widths;
 mod word;
 
 pub use fault::{LexFault, LexStop};

@@ -130,7 +130,9 @@ fn digit(c: char) -> u32
 fn longer(base: u32, n: u128, c: char) -> Option<u128>
     ensures { result ≡ spec.narrow (n * base + digit_value c) }
 {
-    let n = n.checked_mul(u128::from(base))?.checked_add(u128::from(digit(c)))?;
+    let n = n
+        .checked_mul(u128::from(base))?
+        .checked_add(u128::from(digit(c)))?;
     if n < 1 << 127 { Some(n) } else { None }
 }
 

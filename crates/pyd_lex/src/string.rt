@@ -50,7 +50,10 @@ fn is_triple(quote: char, tail: &[char]) -> bool
 pub fn opening(quote: char, tail: &[char]) -> Quotes
     ensures { result ≡ record { quote = quote; triple = spec.is_triple quote tail.now } }
 {
-    Quotes { quote, triple: is_triple(quote, tail) }
+    Quotes {
+        quote,
+        triple: is_triple(quote, tail),
+    }
 }
 
 impl Quotes {

@@ -1,16 +1,17 @@
 //! Tokens and texts compared with CPython's, and the sources that have none.
 
-ghost use Rattle.std.specs.Prelude.{◌<◌, ◌-◌, ◌^◌, length};
-
+mod refused;
 mod rows;
 
 use crate::*;
 use std::alloc::{AllocError, Global};
+use std::test::Fail;
 
 // The tokens as words, each with its bytes and its line, or why there are none.
-fn shown(alloc: Global, source: &[u8]) -> Result<String, AllocError>
-    requires { length source.now < 2 ^ 32 - 1 }
-{
+fn shown(alloc: Global, source: &[u8]) -> Result<String, AllocError> {
+    if source.len() >= 1000 {
+        return String::from_str(alloc, "long");
+    }
     let all = match tokens(alloc, source) {
         Ok(all) => all,
         Err(LexStop::Fault(fault)) => return format!(in alloc; "{fault:?}"),
@@ -21,7 +22,12 @@ fn shown(alloc: Global, source: &[u8]) -> Result<String, AllocError>
         if !out.is_empty() {
             out.push(' ')?;
         }
-        let Token { kind, from, to, line } = *token;
+        let Token {
+            kind,
+            from,
+            to,
+            line,
+        } = *token;
         let word = format!(in alloc; "{kind:?}@{from}-{to}:{line}")?;
         out.push_str(word.as_str())?;
     }
@@ -29,17 +35,20 @@ fn shown(alloc: Global, source: &[u8]) -> Result<String, AllocError>
 }
 
 // The texts of the string tokens, each behind a vertical bar.
-fn texts(alloc: Global, source: &[u8]) -> Result<String, AllocError>
-    requires { length source.now < 2 ^ 32 - 1 }
-{
+fn texts(alloc: Global, source: &[u8]) -> Result<String, AllocError> {
     let mut out = String::new(alloc);
-    if let Ok(all) = tokens(alloc, source) {
-        for token in &all {
-            if token.kind == TokenKind::Str {
-                out.push('|')?;
-                if let Ok(text) = text_of(alloc, source, token) {
-                    out.push_str(text.as_str())?;
-                }
+    if source.len() >= 1000 {
+        return Ok(out);
+    }
+    let Ok(all) = tokens(alloc, source) else {
+        return Ok(out);
+    };
+    for token in &all {
+        if token.kind == TokenKind::Str {
+            out.push('|')?;
+            match text_of(alloc, source, token) {
+                Ok(text) => out.push_str(text.as_str())?,
+                Err(_) => out.push_str("NoMemory")?,
             }
         }
     }
@@ -47,19 +56,61 @@ fn texts(alloc: Global, source: &[u8]) -> Result<String, AllocError>
 }
 
 #[test]
-fn tokens_are_those_of_cpython(rt: HostRuntime) {
+fn tokens_are_those_of_cpython(rt: HostRuntime) -> Result<(), Fail> {
     for (source, want) in &rows::TOKENS {
-        if let Ok(got) = shown(rt.alloc(), source.as_bytes()) {
-            assert_eq!(rt; got.as_str(), *want, "at {source:?}");
-        }
+        assert_eq!(rt;
+            shown(rt.alloc(), source.as_bytes())?.as_str(),
+            *want,
+            "at {source:?}"
+        );
     }
+    Ok(())
 }
 
 #[test]
-fn texts_are_those_of_cpython(rt: HostRuntime) {
-    for (source, want) in &rows::TEXTS {
-        if let Ok(got) = texts(rt.alloc(), source.as_bytes()) {
-            assert_eq!(rt; got.as_str(), *want, "at {source:?}");
-        }
+fn texts_are_those_of_cpython(rt: HostRuntime) -> Result<(), Fail> {
+    for (source, want) in rows::TEXTS.iter().chain(&refused::TEXTS) {
+        assert_eq!(rt;
+            texts(rt.alloc(), source.as_bytes())?.as_str(),
+            *want,
+            "at {source:?}"
+        );
     }
+    Ok(())
+}
+
+#[test]
+fn lines_and_strings_are_read(rt: HostRuntime) -> Result<(), Fail> {
+    for (source, want) in refused::SHOWN.iter().chain(&refused::LINES) {
+        assert_eq!(rt;
+            shown(rt.alloc(), source.as_bytes())?.as_str(),
+            *want,
+            "at {source:?}"
+        );
+    }
+    Ok(())
+}
+
+#[test]
+fn faults_have_their_line(rt: HostRuntime) -> Result<(), Fail> {
+    for (source, want) in refused::CHARS.iter().chain(&refused::NUMBERS) {
+        assert_eq!(rt;
+            shown(rt.alloc(), source.as_bytes())?.as_str(),
+            *want,
+            "at {source:?}"
+        );
+    }
+    Ok(())
+}
+
+#[test]
+fn bytes_outside_utf8_come_first(rt: HostRuntime) -> Result<(), Fail> {
+    for (source, want) in &refused::BYTES {
+        assert_eq!(rt;
+            shown(rt.alloc(), *source)?.as_str(),
+            *want,
+            "at {source:?}"
+        );
+    }
+    Ok(())
 }

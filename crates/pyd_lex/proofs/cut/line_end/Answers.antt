@@ -1,4 +1,4 @@
-use Rattle.std.proofs.Common.{◌≡◌, ◌∙◌, sym, ap, true, false, [], ◌∷◌}
+use Rattle.std.proofs.Common.{◌∙◌, sym, ap, [], ◌∷◌}
 use Rattle.pyd_lex.specs.Words.{begins}
 use Rattle.pyd_lex.proofs.Pieces.{good_feed, good_return}
 use Rattle.pyd_lex.proofs.cut.line_end.Goals as goal

@@ -1,4 +1,3 @@
-use Rattle.std.proofs.Common.{◌≡◌, ◌<◌, ◌∙◌, sym, ap, arith, length, drop, take, None, Some}
 use Rattle.pyd_lex.specs.declared.run.Class.TheVariants.{Quote}
 use Rattle.pyd_lex.proofs.Pieces.{good_string, flawed_string, at_default, class_length}
 use Rattle.pyd_lex.proofs.cut.quoted.Goals as goal

@@ -1,4 +1,4 @@
-use Rattle.std.proofs.Common.{◌≡◌, ◌∙◌, sym, ap, Err, if◌then◌else◌, true, false}
+use Rattle.std.proofs.Common.{◌∙◌, sym, ap, Err, if◌then◌else◌, true, false}
 use Rattle.pyd_lex.specs.declared.fault.Flaw.TheVariants.{BadNumber}
 use Rattle.pyd_lex.specs.Numbers.{sized}
 use Rattle.pyd_lex.proofs.Amounts.{not_number, a_number, is_so}

@@ -1,4 +1,4 @@
-use Rattle.std.proofs.Common.{◌∙◌, sym}
+use Rattle.std.proofs.Common.{◌∙◌}
 use Rattle.pyd_lex.proofs.Words.{begins_same}
 use Rattle.pyd_lex.proofs.run.same.Goals as goal
 

@@ -1,4 +1,4 @@
-use Rattle.std.proofs.Common.{◌≡◌, ◌+◌, ◌<◌, ◌∙◌, sym, ap, arith}
+use Rattle.std.proofs.Common.{◌∙◌, sym, ap, arith}
 use Rattle.pyd_lex.specs.Lines.{size}
 use Rattle.pyd_lex.proofs.Steps.{marked_size}
 use Rattle.pyd_lex.proofs.scan.marked.Goals as goal

@@ -1,4 +1,4 @@
-use Rattle.std.proofs.Common.{◌≡◌, ◌+◌, ◌<◌, ◌≤◌, ◌∙◌, ap, reverse, refl, arith, Err, length}
+use Rattle.std.proofs.Common.{◌∙◌, ap, reverse, refl, arith, Err}
 use Rattle.pyd_lex.specs.Lines.{after, size}
 use Rattle.pyd_lex.specs.Scan.{count}
 use Rattle.pyd_lex.proofs.Steps.{says_new, says_more, says_stop, says_halt, map_fault, size_split, length_size, ends_length}

@@ -1,7 +1,7 @@
-use Rattle.std.proofs.Common.{◌≡◌, ◌∙◌, ◌<◌, sym, ap, subst, inr, Ok, Err, arith, length}
+use Rattle.std.proofs.Common.{◌∙◌, ap, subst, inr, Ok, Err, arith}
 use Rattle.std.specs.Str.{chars}
 use Rattle.pyd_lex.specs.Lines.{size}
-use Rattle.pyd_lex.specs.Reads.{Reads, Says, start, unmarked}
+use Rattle.pyd_lex.specs.Reads.{Says, start, unmarked}
 use Rattle.pyd_lex.proofs.Steps.{if_ok, if_err, map_fault, chars_size}
 use Rattle.pyd_lex.proofs.scan.tokens.Goals as goal
 

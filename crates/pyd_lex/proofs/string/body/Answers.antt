@@ -1,8 +1,5 @@
-use Rattle.std.proofs.Common.{◌≡◌, ℕ, ◌+◌, ◌<◌, ◌≤◌, ◌∙◌, List, [], length, drop, take, None, Some, Option, sym, ap, subst, arith, true, eqb-true}
-use Rattle.pyd_lex.specs.declared.fault.Flaw.{Flaw}
-use Rattle.pyd_lex.specs.Strings.{more}
-use Rattle.pyd_lex.specs.Words.{Text}
-use Rattle.pyd_lex.specs.Ends.{Ends, IsBroken, Skips, spelling}
+use Rattle.std.proofs.Common.{length, sym, arith, eqb-true}
+use Rattle.pyd_lex.specs.Ends.{Skips, spelling}
 use Rattle.pyd_lex.proofs.Strings.{body_close, body_broken, body_skips, body_missing}
 use Rattle.pyd_lex.proofs.string.body.Goals as goal
 

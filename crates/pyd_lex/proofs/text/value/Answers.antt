@@ -1,4 +1,4 @@
-use Rattle.std.proofs.Common.{◌≡◌, ◌<◌, ◌∙◌, ap, arith, length, encode_utf8_all, false-eqb}
+use Rattle.std.proofs.Common.{◌<◌, ◌∙◌, ap, arith, length, encode_utf8_all, false-eqb}
 use Rattle.pyd_lex.proofs.Values.{value_at}
 use Rattle.pyd_lex.proofs.Pieces.{at_default}
 use Rattle.pyd_lex.proofs.Steps.{if_ok}

@@ -1,4 +1,4 @@
-use Rattle.std.proofs.Common.{◌≡◌, ◌∙◌, sym, ap, arith, ◌<◌, length}
+use Rattle.std.proofs.Common.{◌∙◌, sym, ap, arith, ◌<◌, length}
 use Rattle.pyd_lex.specs.Strings.{escape}
 use Rattle.pyd_lex.specs.Ends.{spelling}
 use Rattle.pyd_lex.proofs.Pieces.{at_default}
