@@ -8,3 +8,4 @@ pub mod Steps
 pub mod Values
 pub mod Unique
 pub mod First
+pub mod Spans

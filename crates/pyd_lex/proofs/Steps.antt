@@ -290,7 +290,7 @@ says_halt p q text n s ts m ws f g e h =
 encodes_one : (c : ℕ) (z : Text) → size (c ∷ z) ≡ size (c ∷ []) + size z
 encodes_one c z = ap length (encodes-append (c ∷ []) z) ∙ length-append (encode_utf8_all (c ∷ [])) (encode_utf8_all z)
 
-mark_size : size (0xFEFF ∷ []) ≡ 3
+pub mark_size : size (0xFEFF ∷ []) ≡ 3
 unfolding lib.Utf8.encode
 mark_size = refl
 

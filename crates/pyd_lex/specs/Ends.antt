@@ -5,8 +5,9 @@ use Rattle.pyd_lex.specs.declared.string.Quotes.{Quotes}
 use Rattle.pyd_lex.specs.declared.string.Step.{Step}
 use Rattle.pyd_lex.specs.declared.string.Step.TheVariants.{End, Broken, Skip}
 use Rattle.pyd_lex.specs.Words.{Text, begins}
-use Rattle.pyd_lex.specs.Strings.{inside, flaw, spelled}
-use Rattle.pyd_lex.specs.Spelling.{IsLast}
+use Rattle.pyd_lex.specs.Strings.{inside, flaw, spelled, string_flaw}
+use Rattle.pyd_lex.specs.declared.run.Class.TheVariants.{Quote}
+use Rattle.pyd_lex.specs.Spelling.{Extends, IsLast}
 
 abbrev pub spelling : Quotes → Text
 spelling q = spelled q.triple q.quote
@@ -31,3 +32,10 @@ abbrev pub Steps : Text → Text → Step → Type 0
 Steps quotes text End = begins quotes text ≡ true
 Steps quotes text (Broken f) = IsBroken quotes text f
 Steps quotes text (Skip k) = Skips quotes text k
+
+-- a string of this length after its first quote, with this flaw or none
+abbrev pub IsString : ℕ → Text → Option Flaw → ℕ → Type 0
+IsString c z f n = Extends Quote c z n × (string_flaw c (take n z) ≡ f)
+
+abbrev pub IsFlawedString : ℕ → Text → Flaw → Type 0
+IsFlawedString c z f = (n : ℕ) × Extends Quote c z n × (string_flaw c (take n z) ≡ Some f)

@@ -1,5 +1,6 @@
 -- laws of the tokens of bytes
-use Rattle.std.specs.Prelude.{◌≡◌, ℕ, ◌⊎◌, List, [], ◌∷◌, Ok, Err}
+use Rattle.std.specs.Prelude.{◌≡◌, ℕ, ◌⊎◌, List, [], ◌∷◌, Ok, Err, ◌+◌}
+use Rattle.std.specs.Str.{IsUtf8, chars}
 use Rattle.pyd_lex.specs.declared.fault.Flaw.{Flaw}
 use Rattle.pyd_lex.specs.declared.fault.LexFault.{LexFault}
 use Rattle.pyd_lex.specs.declared.fault.LexFault.TheVariants.{Tab, BadDedent}
@@ -7,8 +8,10 @@ use Rattle.pyd_lex.specs.declared.place.Place.{Place}
 use Rattle.pyd_lex.specs.declared.token.Shape.{Shape}
 use Rattle.pyd_lex.specs.declared.token.Token.{Token}
 use Rattle.pyd_lex.specs.Words.{Text}
-use Rattle.pyd_lex.specs.Lines.{Answer, Piece, fault_at, placed, read}
-use Rattle.pyd_lex.specs.Reads.{Reads}
+use Rattle.pyd_lex.specs.Spelling.{IsCut}
+use Rattle.pyd_lex.specs.Lines.{Answer, Piece, after, fault_at, placed, read, size}
+use Rattle.pyd_lex.specs.Reads.{Reads, start, unmarked}
+use Rattle.pyd_lex.specs.Texts.{spelling_of}
 
 -- bytes have no two answers
 abbrev pub OneAnswer : Type 0
@@ -42,3 +45,14 @@ FirstFault = (p : Place) (pieces : List Text) (f : LexFault) → read p pieces �
 -- and tokens come only where all pieces are well
 abbrev pub AllWell : Type 0
 AllWell = (p : Place) (pieces : List Text) (ts : List Token) → read p pieces ≡ Ok ts → AreWell (placed p pieces)
+
+-- the bytes of each piece are the piece, in UTF-8
+abbrev pub AreSpelled : List ℕ → Place → List Text → Type 0
+AreSpelled bytes p [] = Unit {0}
+AreSpelled bytes p (z ∷ zs) =
+    IsUtf8 (spelling_of bytes p.at (p.at + size z)) × (chars (spelling_of bytes p.at (p.at + size z)) ≡ z) × AreSpelled bytes (after p z) zs
+
+-- so the text of a string token of these bytes is the value of its piece
+abbrev pub Spelled : Type 0
+Spelled =
+    (bytes : List ℕ) (pieces : List Text) → IsUtf8 bytes → IsCut (unmarked (chars bytes)) pieces → AreSpelled bytes (start (chars bytes)) pieces

@@ -27,10 +27,14 @@ start z = record { at = if is_marked z then 3 else 0; line = 1 }
 abbrev pub Says : Place → Text → Answer → Type 0
 Says p text answer = (pieces : List Text) × IsCut text pieces × (read p pieces ≡ answer)
 
+-- some cut of the text behind its byte order mark says this
+abbrev pub TextSays : Text → Answer → Type 0
+TextSays z = Says (start z) (unmarked z)
+
 -- these bytes have these tokens, or this fault
 abbrev pub Reads : List ℕ → Answer → Type 0
 Reads bytes answer =
-    ((IsUtf8 bytes → ⊥) × (answer ≡ Err (Utf8 (utf8_valid_len bytes)))) ⊎ (IsUtf8 bytes × Says (start (chars bytes)) (unmarked (chars bytes)) answer)
+    ((IsUtf8 bytes → ⊥) × (answer ≡ Err (Utf8 (utf8_valid_len bytes)))) ⊎ (IsUtf8 bytes × TextSays (chars bytes) answer)
 
 -- where the answer is a fault, and not want of memory
 abbrev pub IfFault : LexStop → (LexFault → Type 0) → Type 0

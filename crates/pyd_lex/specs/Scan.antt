@@ -1,5 +1,5 @@
 -- the scanner's steps over pieces, which give what the lines give
-use Rattle.std.specs.Prelude.{◌≡◌, ℕ, ◌+◌, ◌≤◌, Bool, true, false, ◌&&◌, ◌==◌, List, [], ◌∷◌, take, Ok, Err}
+use Rattle.std.specs.Prelude.{◌≡◌, ℕ, ◌+◌, ◌≤◌, Bool, true, false, ◌&&◌, ◌==◌, List, [], ◌∷◌, take, Ok, Err, reverse, ◌++◌}
 use Rattle.pyd_lex.specs.declared.fault.LexFault.{LexFault}
 use Rattle.pyd_lex.specs.declared.fault.LexFault.TheVariants as fault
 use Rattle.pyd_lex.specs.declared.fault.Flaw.{Flaw}
@@ -7,12 +7,16 @@ use Rattle.pyd_lex.specs.declared.fault.Stop.{Stop}
 use Rattle.pyd_lex.specs.declared.fault.Stop.TheVariants as stop
 use Rattle.pyd_lex.specs.declared.place.Place.{Place}
 use Rattle.pyd_lex.specs.declared.run.Class.{Class}
+use Rattle.pyd_lex.specs.declared.fault.LexStop.{LexStop}
 use Rattle.pyd_lex.specs.declared.mode.Mode.{Mode}
 use Rattle.pyd_lex.specs.declared.mode.Mode.TheVariants.{Margin, Inside}
+use Rattle.pyd_lex.specs.declared.scanner.Scanner.{Scanner}
 use Rattle.pyd_lex.specs.declared.token.Shape.{Shape}
 use Rattle.pyd_lex.specs.declared.token.Shape.TheVariants.{Space, Tab, Comment, Break, Token as Spelled}
 use Rattle.pyd_lex.specs.declared.token.Token.{Token}
+use Rattle.pyd_lex.specs.declared.token.TokenKind.{TokenKind}
 use Rattle.pyd_lex.specs.declared.token.TokenKind.TheVariants as kind
+use Rattle.pyd_lex.specs.Reads.{IfFault}
 use Rattle.pyd_lex.specs.Words.{Text}
 use Rattle.pyd_lex.specs.Spelling.{class_of, IsLongest, IsCut}
 use Rattle.pyd_lex.specs.Meaning.{meaning}
@@ -114,6 +118,10 @@ Halts m ws p f = (end : Place) (ps : List Piece) → run end (p ∷ ps) m ws ≡
 abbrev pub good : Shape → Place → Place → Piece
 good s p q = record { means = Ok s; at = p; to = q.at }
 
+-- a token from one place to another, as a piece
+abbrev pub spelled : TokenKind → Place → Place → Piece
+spelled k = good (Spelled k)
+
 abbrev pub bad : Flaw → Place → ℕ → Piece
 bad f p to = record { means = Err f; at = p; to = to }
 
@@ -121,3 +129,49 @@ bad f p to = record { means = Err f; at = p; to = to }
 abbrev pub SaysFrom : Place → Text → List Token → Mode → List ℕ → Answer → Type 0
 SaysFrom p text ts m ws answer =
     (pieces : List Text) × IsCut text pieces × (ahead ts (run (end_of p pieces) (placed p pieces) m ws) ≡ answer)
+
+-- ---- the same of scanners
+
+-- the widths of the lines that are begun, the innermost first
+abbrev pub begun : Scanner → List ℕ
+begun s = reverse s.widths.items
+
+-- from this mode the scanner has taken the piece
+abbrev pub Took : Mode → Scanner → Scanner → Piece → Type 0
+Took m s t x = Takes s.tokens.items m (begun s) x t.tokens.items t.mode (begun t)
+
+-- from this mode the piece ends all with the fault that stops the scanner
+abbrev pub Halted : Mode → Scanner → Piece → LexStop → Type 0
+Halted m s x e = IfFault e (Halts m (begun s) x)
+
+-- the scanner has begun what was to be begun
+abbrev pub HasBegun : Scanner → ((List ℕ → Answer) → Answer) → Scanner → Type 0
+HasBegun s before t = Begins s.tokens.items before t.tokens.items (begun t)
+
+-- the line has the fault that stops the scanner
+abbrev pub IsRefused : ((List ℕ → Answer) → Answer) → LexStop → Type 0
+IsRefused before e = IfFault e (Refuses before)
+
+-- the flaw ends all with the fault that stops the scanner
+abbrev pub IsStopped : Scanner → Flaw → Place → LexStop → Type 0
+IsStopped s x p e = IfFault e (λ f. (to : ℕ) → Halts s.mode (begun s) (bad x p to) f)
+
+-- the same of the flaw that this is
+abbrev pub StopsBy : Scanner → Stop → Place → LexStop → Type 0
+StopsBy s x p e = IfFault e (λ f. IsFlaw x (λ y. (to : ℕ) → Halts s.mode (begun s) (bad y p to) f))
+
+-- these tokens were put behind the others
+abbrev pub Adds : Scanner → Scanner → List Token → Type 0
+Adds s t ts = t.tokens.items ≡ s.tokens.items ++ ts
+
+-- a token from one place to another
+abbrev pub token_between : TokenKind → Place → Place → Token
+token_between k p q = record { kind = k; from = p.at; to = q.at; line = p.line }
+
+-- these are all tokens, where the text ends here
+abbrev pub AreAll : Scanner → Place → List Token → Type 0
+AreAll s end ts = ahead s.tokens.items (run end [] s.mode (begun s)) ≡ Ok ts
+
+-- the lines that are begun are closed, and the tokens ended
+abbrev pub IsClosed : Scanner → Place → List Token → Type 0
+IsClosed s end ts = ahead s.tokens.items (Ok (closing end (begun s))) ≡ Ok ts

@@ -2,7 +2,7 @@
 
 ghost use Rattle.std.specs.Prelude.{◌≡◌, ℕ, ◌++◌, [], reverse, OnOk, IfOk, IfErr, Ok};
 ghost use Rattle.pyd_lex.specs.Lines.{ahead, closing, fault_in};
-ghost use Rattle.pyd_lex.specs.Scan.{IsFlaw, Halts, bad, run, unfinished};
+ghost use Rattle.pyd_lex.specs.Scan.{IsFlaw, Halts, bad, run, unfinished, IsStopped, StopsBy, Adds, AreAll, IsClosed, begun};
 ghost use Rattle.pyd_lex.specs.Reads.{IfFault};
 
 use crate::fault::{Flaw, LexFault, LexStop, Stop};
@@ -15,7 +15,7 @@ use crate::{Token, TokenKind};
 impl Scanner {
     /// Why there are no tokens, where the piece here isn't read.
     pub fn stopped(&mut self, stop: Stop, place: Place) -> LexStop
-        ensures { IfFault result (λ fault. IsFlaw stop (λ flaw. (to : ℕ) → Halts self.old.mode (reverse self.old.widths.items) (bad flaw place to) fault)) }
+        ensures { StopsBy self.old stop place result }
     {
         match stop {
             Stop::Flaw(flaw) => self.refuse(flaw, place),
@@ -25,7 +25,7 @@ impl Scanner {
 
     /// The first fault, where the piece here has this flaw.
     fn refuse(&mut self, flaw: Flaw, place: Place) -> LexStop
-        ensures { IfFault result (λ fault. (to : ℕ) → Halts self.old.mode (reverse self.old.widths.items) (bad flaw place to) fault) }
+        ensures { IsStopped self.old flaw place result }
     {
         match self.mode {
             Mode::Margin(width, tab) => match self.begin(width, tab, place) {
@@ -38,7 +38,7 @@ impl Scanner {
 
     /// All tokens, where the text ends here.
     pub fn finish(mut self, end: Place) -> Result<Vec<Token>, LexStop>
-        ensures ok { IfOk result (λ tokens. ahead self.tokens.items (run end [] self.mode (reverse self.widths.items)) ≡ Ok tokens.items) }
+        ensures ok { IfOk result (λ tokens. AreAll self end tokens.items) }
         ensures err { IfErr result (λ stop. stop ≡ LexStop.NoMemory) }
     {
         self.end_line(end)?;
@@ -48,7 +48,7 @@ impl Scanner {
 
     /// Ends a line that the text's end leaves unfinished.
     fn end_line(&mut self, end: Place) -> Result<(), LexStop>
-        ensures ok { OnOk result (self.new.tokens.items ≡ self.old.tokens.items ++ unfinished self.old.mode end) }
+        ensures ok { OnOk result (Adds self.old self.new (unfinished self.old.mode end)) }
         ensures err { IfErr result (λ stop. stop ≡ LexStop.NoMemory) }
         ensures widths { self.new.widths.items ≡ self.old.widths.items }
     {
@@ -62,7 +62,7 @@ impl Scanner {
 
     /// Closes each line that is begun, and ends the tokens.
     fn close(&mut self, end: Place) -> Result<(), LexStop>
-        ensures ok { OnOk result (ahead self.old.tokens.items (Ok (closing end (reverse self.old.widths.items))) ≡ Ok self.new.tokens.items) }
+        ensures ok { OnOk result (IsClosed self.old end self.new.tokens.items) }
         ensures err { IfErr result (λ stop. stop ≡ LexStop.NoMemory) }
     {
         while !self.widths.is_empty() {

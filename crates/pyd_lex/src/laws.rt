@@ -1,6 +1,6 @@
 //! Laws of the relation between bytes and tokens, each proved by the contract of an empty function.
 
-ghost use Rattle.pyd_lex.specs.Laws.{OneAnswer, AnAnswer, FirstFault, AllWell};
+ghost use Rattle.pyd_lex.specs.Laws.{OneAnswer, AnAnswer, FirstFault, AllWell, Spelled};
 
 /// Bytes have no two answers, so what `tokens` answers is the only one.
 pub fn one_answer()
@@ -20,4 +20,9 @@ pub fn first_fault()
 /// Tokens come only where all pieces of the cut are good.
 pub fn all_well()
     ensures { AllWell }
+{}
+
+/// The bytes of each piece of the cut are the piece, so `text_of` gives a string token's value.
+pub fn spelled()
+    ensures { Spelled }
 {}

@@ -2,7 +2,7 @@
 
 ghost use Rattle.std.specs.Prelude.{◌≡◌, ◌+◌, ◌-◌, ◌<◌, ◌≤◌, ◌^◌, length, IfOk, IfErr, Ok, Err};
 ghost use Rattle.pyd_lex.specs.Lines.{size};
-ghost use Rattle.pyd_lex.specs.Reads.{Reads, Says, IfFault, is_marked, start, unmarked};
+ghost use Rattle.pyd_lex.specs.Reads.{Reads, Says, TextSays, IfFault, is_marked};
 
 use crate::Token;
 use crate::cut::front;
@@ -31,8 +31,8 @@ pub fn tokens(alloc: Global, bytes: &[u8]) -> Result<Vec<Token>, LexStop>
 /// The tokens of a text that may begin with a byte order mark.
 fn marked(alloc: Global, text: &[char]) -> Result<Vec<Token>, LexStop>
     requires { size text.now < 2 ^ 32 - 1 }
-    ensures ok { IfOk result (λ tokens. Says (start text.now) (unmarked text.now) (Ok tokens.items)) }
-    ensures fault { IfErr result (λ stop. IfFault stop (λ fault. Says (start text.now) (unmarked text.now) (Err fault))) }
+    ensures ok { IfOk result (λ tokens. TextSays text.now (Ok tokens.items)) }
+    ensures fault { IfErr result (λ stop. IfFault stop (λ fault. TextSays text.now (Err fault))) }
 {
     if is_marked(text) {
         let (_, rest) = text.split_at(1);

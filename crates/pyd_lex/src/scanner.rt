@@ -2,7 +2,7 @@
 
 ghost use Rattle.std.specs.Prelude.{◌≡◌, ◌<◌, ◌≤◌, ◌∷◌, [], ◌++◌, reverse, false, OnOk, IfErr};
 ghost use Rattle.pyd_lex.specs.Lines.{shown};
-ghost use Rattle.pyd_lex.specs.Scan.{Takes, Halts, good, count};
+ghost use Rattle.pyd_lex.specs.Scan.{Takes, Halts, good, count, Took, Halted, Adds, begun, spelled, token_between};
 ghost use Rattle.pyd_lex.specs.Reads.{IfFault};
 
 use crate::fault::LexStop;
@@ -34,7 +34,7 @@ impl Scanner {
     }
 
     pub fn push(&mut self, token: Token) -> Result<(), LexStop>
-        ensures ok { OnOk result (self.new.tokens.items ≡ self.old.tokens.items ++ token ∷ []) }
+        ensures ok { OnOk result (Adds self.old self.new (token ∷ [])) }
         ensures err { IfErr result (λ stop. stop ≡ LexStop.NoMemory) }
         ensures widths { self.new.widths.items ≡ self.old.widths.items }
         ensures mode { self.new.mode ≡ self.old.mode }
@@ -49,8 +49,8 @@ impl Scanner {
     pub fn step(&mut self, shape: Shape, place: Place, next: Place) -> Result<(), LexStop>
         requires room { place.at < next.at }
         requires within { count self.old.mode ≤ place.at }
-        ensures ok { OnOk result (Takes self.old.tokens.items self.old.mode (reverse self.old.widths.items) (good shape place next) self.new.tokens.items self.new.mode (reverse self.new.widths.items)) }
-        ensures fault { IfErr result (λ stop. IfFault stop (Halts self.old.mode (reverse self.old.widths.items) (good shape place next))) }
+        ensures ok { OnOk result (Took self.old.mode self.old self.new (good shape place next)) }
+        ensures fault { IfErr result (Halted self.old.mode self.old (good shape place next)) }
         ensures within { OnOk result (count self.new.mode ≤ next.at) }
     {
         match self.mode {
@@ -70,8 +70,8 @@ impl Scanner {
         requires mode { self.old.mode ≡ Mode.Margin width tab }
         requires room { place.at < next.at }
         requires within { width ≤ place.at }
-        ensures ok { OnOk result (Takes self.old.tokens.items (Mode.Margin width tab) (reverse self.old.widths.items) (good shape place next) self.new.tokens.items self.new.mode (reverse self.new.widths.items)) }
-        ensures fault { IfErr result (λ stop. IfFault stop (Halts (Mode.Margin width tab) (reverse self.old.widths.items) (good shape place next))) }
+        ensures ok { OnOk result (Took (Mode.Margin width tab) self.old self.new (good shape place next)) }
+        ensures fault { IfErr result (Halted (Mode.Margin width tab) self.old (good shape place next)) }
         ensures within { OnOk result (count self.new.mode ≤ next.at) }
     {
         if let Shape::Token(kind) = shape {
@@ -90,8 +90,8 @@ impl Scanner {
         next: Place,
     ) -> Result<(), LexStop>
         requires room { place.at < next.at }
-        ensures ok { OnOk result (Takes self.old.tokens.items (Mode.Margin width tab) (reverse self.old.widths.items) (good (Shape.Token kind) place next) self.new.tokens.items self.new.mode (reverse self.new.widths.items)) }
-        ensures fault { IfErr result (λ stop. IfFault stop (Halts (Mode.Margin width tab) (reverse self.old.widths.items) (good (Shape.Token kind) place next))) }
+        ensures ok { OnOk result (Took (Mode.Margin width tab) self.old self.new (spelled kind place next)) }
+        ensures fault { IfErr result (Halted (Mode.Margin width tab) self.old (spelled kind place next)) }
         ensures within { OnOk result (count self.new.mode ≤ next.at) }
     {
         match self.begin(width, tab, place) {
@@ -114,8 +114,8 @@ impl Scanner {
         requires mode { self.old.mode ≡ Mode.Inside depth loud }
         requires room { place.at < next.at }
         requires within { depth ≤ place.at }
-        ensures ok { OnOk result (Takes self.old.tokens.items (Mode.Inside depth loud) (reverse self.old.widths.items) (good shape place next) self.new.tokens.items self.new.mode (reverse self.new.widths.items)) }
-        ensures fault { IfErr result (λ stop. IfFault stop (Halts (Mode.Inside depth loud) (reverse self.old.widths.items) (good shape place next))) }
+        ensures ok { OnOk result (Took (Mode.Inside depth loud) self.old self.new (good shape place next)) }
+        ensures fault { IfErr result (Halted (Mode.Inside depth loud) self.old (good shape place next)) }
         ensures within { OnOk result (count self.new.mode ≤ next.at) }
     {
         match shape {
@@ -135,7 +135,7 @@ impl Scanner {
     ) -> Result<(), LexStop>
         requires room { place.at < next.at }
         requires within { depth ≤ place.at }
-        ensures ok { OnOk result (Takes self.old.tokens.items (Mode.Inside depth loud) (reverse self.old.widths.items) (good (Shape.Token kind) place next) self.new.tokens.items self.new.mode (reverse self.new.widths.items)) }
+        ensures ok { OnOk result (Took (Mode.Inside depth loud) self.old self.new (spelled kind place next)) }
         ensures err { IfErr result (λ stop. stop ≡ LexStop.NoMemory) }
         ensures within { OnOk result (count self.new.mode ≤ next.at) }
     {
@@ -154,7 +154,7 @@ impl Scanner {
         requires mode { self.old.mode ≡ Mode.Inside depth loud }
         requires room { place.at < next.at }
         requires within { depth ≤ place.at }
-        ensures ok { OnOk result (Takes self.old.tokens.items (Mode.Inside depth loud) (reverse self.old.widths.items) (good Shape.Break place next) self.new.tokens.items self.new.mode (reverse self.new.widths.items)) }
+        ensures ok { OnOk result (Took (Mode.Inside depth loud) self.old self.new (good Shape.Break place next)) }
         ensures err { IfErr result (λ stop. stop ≡ LexStop.NoMemory) }
         ensures within { OnOk result (count self.new.mode ≤ next.at) }
     {
@@ -174,7 +174,7 @@ impl Scanner {
         place: Place,
         next: Place,
     ) -> Result<(), LexStop>
-        ensures ok { OnOk result (self.new.tokens.items ≡ self.old.tokens.items ++ shown loud (record { kind = kind; from = place.at; to = next.at; line = place.line })) }
+        ensures ok { OnOk result (Adds self.old self.new (shown loud (token_between kind place next))) }
         ensures err { IfErr result (λ stop. stop ≡ LexStop.NoMemory) }
         ensures widths { self.new.widths.items ≡ self.old.widths.items }
         ensures mode { self.new.mode ≡ self.old.mode }

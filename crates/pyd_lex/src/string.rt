@@ -3,11 +3,9 @@
 ghost use Rattle.std.specs.Prelude.{◌≡◌, ℕ, ◌<◌, IfOk, IfErr, None, Some, take, length};
 ghost use Rattle.pyd_lex.specs.Words.{begins};
 ghost use Rattle.pyd_lex.specs.Strings as spec;
-ghost use Rattle.pyd_lex.specs.Spelling.{Extends};
-ghost use Rattle.pyd_lex.specs.Ends.{Ends, IsBroken, Steps, spelling};
+ghost use Rattle.pyd_lex.specs.Ends.{Ends, IsBroken, Steps, spelling, IsString, IsFlawedString};
 
 use crate::fault::Flaw;
-use crate::run::Class;
 
 /// What the character at the front is, inside quotes.
 #[derive(Clone, Copy, Debug, PartialEq, Eq)]
@@ -142,8 +140,8 @@ pub fn escape(c: char) -> Option<char>
 
 /// The length of a string after its first quote.
 pub fn string(quote: char, tail: &[char]) -> Result<usize, Flaw>
-    ensures ok { IfOk result (λ n. Extends Class.Quote quote tail.now n × (spec.string_flaw quote (take n tail.now) ≡ None)) }
-    ensures err { IfErr result (λ f. (n : ℕ) × Extends Class.Quote quote tail.now n × (spec.string_flaw quote (take n tail.now) ≡ Some f)) }
+    ensures ok { IfOk result (IsString quote tail.now None) }
+    ensures err { IfErr result (IsFlawedString quote tail.now) }
 {
     let quotes = opening(quote, tail);
     let (_, text) = tail.split_at(quotes.more());

@@ -2,7 +2,7 @@
 
 ghost use Rattle.std.specs.Prelude.{◌≡◌, ◌<◌, ◌∷◌, [], ◌++◌, reverse, length, OnOk, IfErr};
 ghost use Rattle.pyd_lex.specs.Lines.{empty_at, lowered, top};
-ghost use Rattle.pyd_lex.specs.Scan.{Begins, Refuses, started};
+ghost use Rattle.pyd_lex.specs.Scan.{Begins, Refuses, started, HasBegun, IsRefused, Adds, begun};
 ghost use Rattle.pyd_lex.specs.Reads.{IfFault};
 
 use crate::fault::{LexFault, LexStop};
@@ -13,8 +13,8 @@ use crate::{Token, TokenKind};
 impl Scanner {
     /// Begins a line whose first token is here.
     pub fn begin(&mut self, width: u32, tab: bool, place: Place) -> Result<(), LexStop>
-        ensures ok { OnOk result (Begins self.old.tokens.items (λ next. started tab width place (reverse self.old.widths.items) next) self.new.tokens.items (reverse self.new.widths.items)) }
-        ensures fault { IfErr result (λ stop. IfFault stop (Refuses (λ next. started tab width place (reverse self.old.widths.items) next))) }
+        ensures ok { OnOk result (HasBegun self.old (started tab width place (begun self.old)) self.new) }
+        ensures fault { IfErr result (IsRefused (started tab width place (begun self.old))) }
         ensures mode { self.new.mode ≡ self.old.mode }
     {
         if tab {
@@ -28,7 +28,7 @@ impl Scanner {
     }
 
     fn top(&self) -> u32
-        ensures { result ≡ top (reverse self.now.widths.items) }
+        ensures { result ≡ top (begun self.now) }
     {
         let widths = self.widths.as_slice();
         let count = widths.len();
@@ -36,7 +36,7 @@ impl Scanner {
     }
 
     fn indent(&mut self, width: u32, place: Place) -> Result<(), LexStop>
-        ensures ok { OnOk result (self.new.tokens.items ≡ self.old.tokens.items ++ empty_at TokenKind.Indent place ∷ []) }
+        ensures ok { OnOk result (Adds self.old self.new (empty_at TokenKind.Indent place ∷ [])) }
         ensures widths { OnOk result (self.new.widths.items ≡ self.old.widths.items ++ width ∷ []) }
         ensures err { IfErr result (λ stop. stop ≡ LexStop.NoMemory) }
         ensures mode { self.new.mode ≡ self.old.mode }
@@ -50,8 +50,8 @@ impl Scanner {
     /// Closes the innermost line that is begun.
     pub fn dedent(&mut self, place: Place) -> Result<(), LexStop>
         requires { 0 < length self.old.widths.items }
-        ensures ok { OnOk result (self.new.tokens.items ≡ self.old.tokens.items ++ empty_at TokenKind.Dedent place ∷ []) }
-        ensures widths { OnOk result (reverse self.old.widths.items ≡ top (reverse self.old.widths.items) ∷ reverse self.new.widths.items) }
+        ensures ok { OnOk result (Adds self.old self.new (empty_at TokenKind.Dedent place ∷ [])) }
+        ensures widths { OnOk result (begun self.old ≡ top (begun self.old) ∷ begun self.new) }
         ensures err { IfErr result (λ stop. stop ≡ LexStop.NoMemory) }
         ensures mode { self.new.mode ≡ self.old.mode }
         ensures less { length self.new.widths.items < length self.old.widths.items }
@@ -62,8 +62,8 @@ impl Scanner {
 
     /// Closes the lines that are wider than this.
     fn lower(&mut self, width: u32, place: Place) -> Result<(), LexStop>
-        ensures ok { OnOk result (Begins self.old.tokens.items (λ next. lowered width place (reverse self.old.widths.items) next) self.new.tokens.items (reverse self.new.widths.items)) }
-        ensures fault { IfErr result (λ stop. IfFault stop (Refuses (λ next. lowered width place (reverse self.old.widths.items) next))) }
+        ensures ok { OnOk result (HasBegun self.old (lowered width place (begun self.old)) self.new) }
+        ensures fault { IfErr result (IsRefused (lowered width place (begun self.old))) }
         ensures mode { self.new.mode ≡ self.old.mode }
     {
         while width < self.top() {
