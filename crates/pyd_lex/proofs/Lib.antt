@@ -1,0 +1,11 @@
+pub mod Words
+pub mod Spelling
+pub mod Strings
+pub mod Amounts
+pub mod Lines
+pub mod Pieces
+pub mod Steps
+pub mod Values
+pub mod Unique
+pub mod First
+pub mod Spans

@@ -1,0 +1,11 @@
+pub mod Words
+pub mod Strings
+pub mod Numbers
+pub mod Spelling
+pub mod Ends
+pub mod Meaning
+pub mod Lines
+pub mod Scan
+pub mod Reads
+pub mod Texts
+pub mod Laws

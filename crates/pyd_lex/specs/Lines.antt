@@ -1,0 +1,207 @@
+-- pieces at their places, the logical lines that they make, and the tokens of these
+use Rattle.std.specs.Prelude.{ℕ, ◌+◌, ◌-◌, Bool, true, false, not, ◌&&◌, ◌||◌, ◌==◌, nat_lt, List, [], ◌∷◌, ◌++◌, length, Result, Ok, Err, if◌then◌else◌, encode_utf8_all}
+use Rattle.pyd_lex.specs.declared.fault.Flaw.{Flaw}
+use Rattle.pyd_lex.specs.declared.fault.Flaw.TheVariants as flaw
+use Rattle.pyd_lex.specs.declared.fault.LexFault.{LexFault}
+use Rattle.pyd_lex.specs.declared.fault.LexFault.TheVariants as fault
+use Rattle.pyd_lex.specs.declared.mark.Mark.TheVariants.{LeftParen, RightParen, LeftBracket, RightBracket}
+use Rattle.pyd_lex.specs.declared.place.Place.{Place}
+use Rattle.pyd_lex.specs.declared.token.Shape.TheVariants.{Space, Tab, Comment, Break, Token as Spelled}
+use Rattle.pyd_lex.specs.declared.token.Token.{Token}
+use Rattle.pyd_lex.specs.declared.token.TokenKind.{TokenKind}
+use Rattle.pyd_lex.specs.declared.token.TokenKind.TheVariants as kind
+use Rattle.pyd_lex.specs.Words.{Text, begins}
+use Rattle.pyd_lex.specs.Meaning.{Judged, meaning}
+
+-- ---- places
+
+-- whether a line ends with c before z; a carriage return before a line feed ends none
+abbrev pub is_end : ℕ → Text → Bool
+is_end c z = c == 10 || (c == 13 && not (begins (10 ∷ []) z))
+
+-- the line ends in a piece
+abbrev pub ends : Text → ℕ
+ends [] = 0
+ends (c ∷ z) = (if is_end c z then 1 else 0) + ends z
+
+-- the bytes of a piece
+abbrev pub size : Text → ℕ
+size z = length (encode_utf8_all z)
+
+-- the place after a piece
+abbrev pub after : Place → Text → Place
+after p z = record { at = p.at + size z; line = p.line + ends z }
+
+-- what a piece means, where it begins and the byte after it
+pub record Piece : Type 0 where
+  pub means : Judged
+  pub at : Place
+  pub to : ℕ
+
+abbrev pub placed : Place → List Text → List Piece
+placed p [] = []
+placed p (z ∷ zs) = record { means = meaning z; at = p; to = p.at + size z } ∷ placed (after p z) zs
+
+-- the place after all pieces
+abbrev pub end_of : Place → List Text → Place
+end_of p [] = p
+end_of p (z ∷ zs) = end_of (after p z) zs
+
+-- ---- logical lines
+
+-- how many brackets are open after a token, and never below none
+abbrev pub bracket : ℕ → TokenKind → ℕ
+bracket depth (kind.Mark LeftParen) = depth + 1
+bracket depth (kind.Mark LeftBracket) = depth + 1
+bracket depth (kind.Mark RightParen) = depth - 1
+bracket depth (kind.Mark RightBracket) = depth - 1
+bracket depth k = depth
+
+abbrev pub depth_after : ℕ → Judged → ℕ
+depth_after depth (Ok (Spelled k)) = bracket depth k
+depth_after depth j = depth
+
+-- a line end outside brackets
+abbrev pub closes_line : ℕ → Judged → Bool
+closes_line depth (Ok Break) = depth == 0
+closes_line depth j = false
+
+abbrev pub Line : Type 0
+Line = List Piece
+
+-- the line that is begun, and the lines after it
+pub record Lines : Type 0 where
+  pub first : Line
+  pub others : List Line
+
+abbrev pub all_lines : Lines → List Line
+all_lines ls = ls.first ∷ ls.others
+
+abbrev pub joined : Bool → Piece → Lines → Lines
+joined true p ls = record { first = p ∷ []; others = all_lines ls }
+joined false p ls = record { first = p ∷ ls.first; others = ls.others }
+
+-- the pieces by logical lines: each goes on to the first line end outside brackets
+unfoldable pub lines : ℕ → List Piece → Lines
+lines depth [] = record { first = []; others = [] }
+lines depth (p ∷ ps) = joined (closes_line depth p.means) p (lines (depth_after depth p.means) ps)
+
+-- ---- the tokens of a line
+
+abbrev pub Answer : Type 0
+Answer = Result (List Token) LexFault
+
+-- these tokens before an answer's
+abbrev pub ahead : List Token → Answer → Answer
+ahead ts (Ok us) = Ok (ts ++ us)
+ahead ts (Err f) = Err f
+
+abbrev pub empty_at : TokenKind → Place → Token
+empty_at k p = record { kind = k; from = p.at; to = p.at; line = p.line }
+
+abbrev pub token_at : TokenKind → Piece → Token
+token_at k p = record { kind = k; from = p.at.at; to = p.to; line = p.at.line }
+
+abbrev pub fault_in : Flaw → ℕ → LexFault
+fault_in flaw.BadChar line = fault.BadChar line
+fault_in flaw.BadName line = fault.BadName line
+fault_in flaw.BadNumber line = fault.BadNumber line
+fault_in flaw.WideNumber line = fault.WideNumber line
+fault_in flaw.BadString line = fault.BadString line
+
+abbrev pub fault_at : Flaw → Place → LexFault
+fault_at f p = fault_in f p.line
+
+abbrev pub shown : Bool → Token → List Token
+shown true t = t ∷ []
+shown false t = []
+
+-- the pieces of a line from its first that isn't blank; `loud` where the line has tokens to show
+unfoldable pub said : Place → Bool → ℕ → Line → Answer → Answer
+said end loud depth [] later = ahead (shown (loud && (depth == 0)) (empty_at kind.Newline end)) later
+said end loud depth (p ∷ ps) later =
+    elim (p.means) [
+      | Err f ↦ Err (fault_at f p.at)
+      | Ok s ↦ elim s [
+        | Spelled k ↦ ahead (shown loud (token_at k p)) (said end loud (bracket depth k) ps later)
+        | Break ↦ elim (depth == 0) [
+          | true ↦ ahead (shown loud (token_at kind.Newline p)) later
+          | false ↦ said end loud depth ps later
+        ]
+        | Space ↦ said end loud depth ps later
+        | Tab ↦ said end loud depth ps later
+        | Comment ↦ said end loud depth ps later
+      ]
+    ]
+
+abbrev pub is_blank : Judged → Bool
+is_blank (Ok Space) = true
+is_blank (Ok Tab) = true
+is_blank j = false
+
+abbrev pub is_tab : Judged → Bool
+is_tab (Ok Tab) = true
+is_tab j = false
+
+-- the blanks before a line's first piece that isn't blank
+abbrev pub width : Line → ℕ
+width [] = 0
+width (p ∷ ps) = if is_blank p.means then 1 + width ps else 0
+
+abbrev pub has_tab : Line → Bool
+has_tab [] = false
+has_tab (p ∷ ps) = is_blank p.means && (is_tab p.means || has_tab ps)
+
+abbrev pub content : Line → Line
+content [] = []
+content (p ∷ ps) = if is_blank p.means then content ps else p ∷ ps
+
+-- ---- widths
+
+abbrev pub top : List ℕ → ℕ
+top [] = 0
+top (w ∷ ws) = w
+
+-- the wider lines are closed down to this width, which must be that of one that is still there
+unfoldable pub lowered : ℕ → Place → List ℕ → (List ℕ → Answer) → Answer
+lowered w p [] next = if w == 0 then next [] else Err (fault.BadDedent p.line)
+lowered w p (v ∷ vs) next =
+    if nat_lt w v then ahead (empty_at kind.Dedent p ∷ []) (lowered w p vs next)
+    else (if w == v then next (v ∷ vs) else Err (fault.BadDedent p.line))
+
+-- the widths above 0 of the lines that stay begun, the innermost first
+unfoldable pub indented : ℕ → Place → List ℕ → (List ℕ → Answer) → Answer
+indented w p ws next =
+    if nat_lt (top ws) w then ahead (empty_at kind.Indent p ∷ []) (next (w ∷ ws)) else lowered w p ws next
+
+-- a line that has only blanks and a comment
+abbrev pub is_silent : Judged → Bool
+is_silent (Ok Comment) = true
+is_silent (Ok Break) = true
+is_silent j = false
+
+-- a line's tokens by its width, whether a tab is before its first token, and what comes from there on
+unfoldable pub line_said : Place → Line → ℕ → Bool → List ℕ → (List ℕ → Answer) → Answer
+line_said end [] w tab ws later = later ws
+line_said end (p ∷ ps) w tab ws later =
+    elim (is_silent p.means) [
+      | true ↦ said end false 0 (p ∷ ps) (later ws)
+      | false ↦ elim tab [
+        | true ↦ Err (fault.Tab p.at.line)
+        | false ↦ indented w p.at ws (λ vs. said end true 0 (p ∷ ps) (later vs))
+      ]
+    ]
+
+-- at the end, one dedent for each width and the last token
+abbrev pub closing : Place → List ℕ → List Token
+closing end [] = empty_at kind.End end ∷ []
+closing end (w ∷ ws) = empty_at kind.Dedent end ∷ closing end ws
+
+-- the tokens of these lines under these widths, or the first fault
+unfoldable pub laid : Place → List Line → List ℕ → Answer
+laid end [] ws = Ok (closing end ws)
+laid end (l ∷ ls) ws = line_said end (content l) (width l) (has_tab l) ws (laid end ls)
+
+-- what the pieces from this place on say
+unfoldable pub read : Place → List Text → Answer
+read p zs = laid (end_of p zs) (all_lines (lines 0 (placed p zs))) []

@@ -1,0 +1,68 @@
+-- integer literals
+use Rattle.std.specs.Prelude.{ℕ, ◌+◌, ◌*◌, ◌^◌, Bool, true, false, not, ◌&&◌, ◌||◌, ◌==◌, nat_lt, [], ◌∷◌, drop, pos, Option, Some, None, Result, Ok, Err, if◌then◌else◌}
+use Rattle.std.specs.Char.{digit_value, is_digit}
+use Rattle.std.specs.Str.{bytes_eq}
+use Rattle.pyd_lex.specs.declared.fault.Flaw.{Flaw}
+use Rattle.pyd_lex.specs.declared.fault.Flaw.TheVariants.{BadNumber, WideNumber}
+use Rattle.pyd_lex.specs.declared.token.TokenKind.{TokenKind}
+use Rattle.pyd_lex.specs.declared.token.TokenKind.TheVariants.{Int}
+use Rattle.pyd_lex.specs.Words.{Text, begins}
+
+-- the base that the letter after a zero stands for
+abbrev pub radix_of : ℕ → ℕ
+radix_of x =
+    if x == 120 || x == 88 then 16
+    else (if x == 111 || x == 79 then 8
+    else (if x == 98 || x == 66 then 2
+    else 10))
+
+abbrev pub radix : Text → ℕ
+radix [] = 10
+radix (c ∷ []) = 10
+radix (c ∷ x ∷ z) = if c == 48 then radix_of x else 10
+
+-- the digits and underscores after a prefix of two characters
+abbrev pub digits : Text → Text
+digits z = if radix z == 10 then z else drop 2 z
+
+-- each digit stands alone or after one underscore
+abbrev pub is_spread : ℕ → Text → Bool
+is_spread base [] = true
+is_spread base (c ∷ []) = not (c == 95) && is_digit c base
+is_spread base (c ∷ d ∷ z) =
+    elim (c == 95) [
+      | true ↦ is_digit d base && is_spread base z
+      | false ↦ is_digit c base && is_spread base (d ∷ z)
+    ]
+
+-- the value of the digits after those of value n
+abbrev pub amount : ℕ → ℕ → Text → ℕ
+amount base n [] = n
+amount base n (c ∷ z) = amount base (if c == 95 then n else n * base + digit_value c) z
+
+abbrev pub is_digits : ℕ → Text → Bool
+is_digits base z = not (bytes_eq z []) && is_spread base z
+
+-- a value that the widest integer isn't below
+abbrev pub narrow : ℕ → Option ℕ
+narrow n = if nat_lt n (2 ^ 127) then Some n else None
+
+abbrev pub is_zero : Option ℕ → Bool
+is_zero (Some n) = n == 0
+is_zero None = false
+
+-- a decimal that begins with a zero and isn't zeros only
+abbrev pub is_led : ℕ → Text → Option ℕ → Bool
+is_led base z n = base == 10 && begins (48 ∷ []) z && not (is_zero n)
+
+abbrev pub sized : Option ℕ → Result TokenKind Flaw
+sized None = Err WideNumber
+sized (Some n) = Ok (Int (pos n))
+
+abbrev pub led : ℕ → Text → Option ℕ → Result TokenKind Flaw
+led base z n = if is_led base z n then Err BadNumber else sized n
+
+-- the literal's value, or what is wrong with it
+unfoldable pub number : Text → Result TokenKind Flaw
+number z =
+    if is_digits (radix z) (digits z) then led (radix z) z (narrow (amount (radix z) 0 (digits z))) else Err BadNumber

@@ -1,0 +1,31 @@
+//! The tokens of a source, and the text of a string token.
+#![tactic(auto)]
+
+mod cut;
+mod ending;
+mod fault;
+mod laws;
+mod mark;
+mod mode;
+mod name;
+mod number;
+mod place;
+mod run;
+mod scan;
+mod scanner;
+mod string;
+mod text;
+mod token;
+mod widths;
+mod word;
+
+pub use fault::{LexFault, LexStop};
+pub use laws::{all_well, an_answer, first_fault, one_answer, spelled};
+pub use mark::Mark;
+pub use scan::tokens;
+pub use text::text_of;
+pub use token::{Token, TokenKind};
+pub use word::Word;
+
+#[cfg(test)]
+mod tests;

@@ -1,0 +1,79 @@
+//! The tokens of a source, in one pass over the pieces of its text.
+
+ghost use Rattle.std.specs.Prelude.{◌≡◌, ◌+◌, ◌-◌, ◌<◌, ◌≤◌, ◌^◌, length, IfOk, IfErr, Ok, Err};
+ghost use Rattle.pyd_lex.specs.Lines.{size};
+ghost use Rattle.pyd_lex.specs.Reads.{Reads, Says, TextSays, IfFault, is_marked};
+
+use crate::Token;
+use crate::cut::front;
+use crate::fault::{LexFault, LexStop};
+use crate::place::Place;
+use crate::scanner::Scanner;
+use crate::text::characters;
+use std::alloc::Global;
+
+/// The tokens of a source, or its first fault. `bytes` are fewer than `2 ^ 32 - 1`.
+pub fn tokens(alloc: Global, bytes: &[u8]) -> Result<Vec<Token>, LexStop>
+    requires { length bytes.now < 2 ^ 32 - 1 }
+    ensures ok { IfOk result (λ tokens. Reads bytes.now (Ok tokens.items)) }
+    ensures fault { IfErr result (λ stop. IfFault stop (λ fault. Reads bytes.now (Err fault))) }
+{
+    let text = match str::from_utf8(bytes) {
+        Ok(text) => text,
+        Err(error) => return Err(LexStop::Fault(LexFault::Utf8(error.valid_up_to() as u32))),
+    };
+    match characters(alloc, text) {
+        Ok(text) => marked(alloc, text.as_slice()),
+        Err(_) => Err(LexStop::NoMemory),
+    }
+}
+
+/// The tokens of a text that may begin with a byte order mark.
+fn marked(alloc: Global, text: &[char]) -> Result<Vec<Token>, LexStop>
+    requires { size text.now < 2 ^ 32 - 1 }
+    ensures ok { IfOk result (λ tokens. TextSays text.now (Ok tokens.items)) }
+    ensures fault { IfErr result (λ stop. IfFault stop (λ fault. TextSays text.now (Err fault))) }
+{
+    if is_marked(text) {
+        let (_, rest) = text.split_at(1);
+        return scanned(alloc, Place { at: 3, line: 1 }, rest);
+    }
+    scanned(alloc, Place { at: 0, line: 1 }, text)
+}
+
+/// Whether a byte order mark is at the front.
+fn is_marked(text: &[char]) -> bool
+    ensures { result ≡ is_marked text.now }
+{
+    match text {
+        [c, ..] => *c == '\u{feff}',
+        [] => false,
+    }
+}
+
+/// The tokens of a text that begins at this place.
+fn scanned(alloc: Global, start: Place, text: &[char]) -> Result<Vec<Token>, LexStop>
+    requires at { start.at + size text.now < 2 ^ 32 - 1 }
+    requires line { start.line ≤ start.at + 1 }
+    ensures ok { IfOk result (λ tokens. Says start text.now (Ok tokens.items)) }
+    ensures fault { IfErr result (λ stop. IfFault stop (λ fault. Says start text.now (Err fault))) }
+{
+    let mut scanner = Scanner::new(alloc);
+    let mut place = start;
+    let mut rest = text;
+    while !rest.is_empty() {
+        let (shape, len) = match front(alloc, rest) {
+            Ok(piece) => piece,
+            Err(stop) => return Err(scanner.stopped(stop, place)),
+        };
+        let (piece, more) = rest.split_at(len);
+        let next = place.after(piece);
+        match scanner.step(shape, place, next) {
+            Ok(()) => {}
+            Err(stop) => return Err(stop),
+        }
+        place = next;
+        rest = more;
+    }
+    scanner.finish(place)
+}

@@ -1,0 +1,89 @@
+//! The widths of the lines that are begun.
+
+ghost use Rattle.std.specs.Prelude.{◌≡◌, ◌<◌, ◌∷◌, [], ◌++◌, reverse, length, OnOk, IfErr};
+ghost use Rattle.pyd_lex.specs.Lines.{empty_at, lowered, top};
+ghost use Rattle.pyd_lex.specs.Scan.{Begins, Refuses, started, HasBegun, IsRefused, Adds, begun};
+ghost use Rattle.pyd_lex.specs.Reads.{IfFault};
+
+use crate::fault::{LexFault, LexStop};
+use crate::place::Place;
+use crate::scanner::Scanner;
+use crate::{Token, TokenKind};
+
+impl Scanner {
+    /// Begins a line whose first token is here.
+    pub fn begin(&mut self, width: u32, tab: bool, place: Place) -> Result<(), LexStop>
+        ensures ok { OnOk result (HasBegun self.old (started tab width place (begun self.old)) self.new) }
+        ensures fault { IfErr result (IsRefused (started tab width place (begun self.old))) }
+        ensures mode { self.new.mode ≡ self.old.mode }
+    {
+        if tab {
+            return Err(LexStop::Fault(LexFault::Tab(place.line)));
+        }
+        if self.top() < width {
+            self.indent(width, place)?;
+            return Ok(());
+        }
+        self.lower(width, place)
+    }
+
+    fn top(&self) -> u32
+        ensures { result ≡ top (begun self.now) }
+    {
+        let widths = self.widths.as_slice();
+        let count = widths.len();
+        if count == 0 { 0 } else { widths[count - 1] }
+    }
+
+    fn indent(&mut self, width: u32, place: Place) -> Result<(), LexStop>
+        ensures ok { OnOk result (Adds self.old self.new (empty_at TokenKind.Indent place ∷ [])) }
+        ensures widths { OnOk result (self.new.widths.items ≡ self.old.widths.items ++ width ∷ []) }
+        ensures err { IfErr result (λ stop. stop ≡ LexStop.NoMemory) }
+        ensures mode { self.new.mode ≡ self.old.mode }
+    {
+        if self.widths.push(width).is_err() {
+            return Err(LexStop::NoMemory);
+        }
+        self.push(empty(TokenKind::Indent, place))
+    }
+
+    /// Closes the innermost line that is begun.
+    pub fn dedent(&mut self, place: Place) -> Result<(), LexStop>
+        requires { 0 < length self.old.widths.items }
+        ensures ok { OnOk result (Adds self.old self.new (empty_at TokenKind.Dedent place ∷ [])) }
+        ensures widths { OnOk result (begun self.old ≡ top (begun self.old) ∷ begun self.new) }
+        ensures err { IfErr result (λ stop. stop ≡ LexStop.NoMemory) }
+        ensures mode { self.new.mode ≡ self.old.mode }
+        ensures less { length self.new.widths.items < length self.old.widths.items }
+    {
+        self.widths.pop();
+        self.push(empty(TokenKind::Dedent, place))
+    }
+
+    /// Closes the lines that are wider than this.
+    fn lower(&mut self, width: u32, place: Place) -> Result<(), LexStop>
+        ensures ok { OnOk result (HasBegun self.old (lowered width place (begun self.old)) self.new) }
+        ensures fault { IfErr result (IsRefused (lowered width place (begun self.old))) }
+        ensures mode { self.new.mode ≡ self.old.mode }
+    {
+        while width < self.top() {
+            self.dedent(place)?;
+        }
+        if width == self.top() {
+            return Ok(());
+        }
+        Err(LexStop::Fault(LexFault::BadDedent(place.line)))
+    }
+}
+
+/// A token that nothing spells.
+pub fn empty(kind: TokenKind, place: Place) -> Token
+    ensures { result ≡ empty_at kind place }
+{
+    Token {
+        kind,
+        from: place.at,
+        to: place.at,
+        line: place.line,
+    }
+}
