@@ -1,0 +1,10 @@
+pub mod Answer
+pub mod Integer
+pub mod Bits
+pub mod Arithmetic
+pub mod Joining
+pub mod Operation
+pub mod Comparing
+pub mod Spans
+pub mod Indexing
+pub mod Calls

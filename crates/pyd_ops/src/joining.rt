@@ -1,0 +1,115 @@
+//! Joining and repeating texts and tuples. What the limits refuse isn't built.
+ghost use Rattle.std.specs.Prelude.{◌≡◌, ◌+◌, ◌-◌, ◌*◌, ◌<◌, ◌≤◌, max, nat_le, nat_lt, ◌&&◌, ◌++◌, IfOk, OnOk, string_bytes};
+ghost use Rattle.std.specs.Str.{chars};
+ghost use Rattle.pyd_value.specs.Size.{size_of, nesting_of};
+ghost use Rattle.pyd_ops.specs.Answer.{answered};
+ghost use Rattle.pyd_ops.specs.Joining.{held_text, text_value, times};
+
+use crate::answer::exceed;
+use pyd_value::{Limit, List, NoMemory, Outcome, Text, Value, nest, size, try_copy};
+use std::alloc::Global;
+
+/// The greatest size of a value.
+const LARGEST: u64 = 1_048_576;
+
+/// The deepest nesting of a tuple.
+const DEEPEST: u32 = 100;
+
+/// One text and then the other, or `SizeLimit`.
+pub(crate) fn join_texts(alloc: Global, s: &Text, t: &Text, line: u32) -> Result<Outcome, NoMemory>
+    ensures { IfOk result (λ outcome. outcome ≡ answered (held_text (s.now ++ t.now) line)) }
+{
+    let (s, t) = (s.as_str(), t.as_str());
+    if s.len().saturating_add(t.len()) as u64 >= LARGEST {
+        return Ok(exceed(Limit::Size, line));
+    }
+    text(alloc, join_strs(alloc, s, t)?.as_str())
+}
+
+fn join_strs(alloc: Global, s: &str, t: &str) -> Result<String, NoMemory>
+    ensures { IfOk result (λ joined. string_bytes joined ≡ s.now ++ t.now) }
+{
+    let mut joined = String::from_str(alloc, s)?;
+    joined.push_str(t)?;
+    Ok(joined)
+}
+
+fn text(alloc: Global, s: &str) -> Result<Outcome, NoMemory>
+    ensures { IfOk result (λ outcome. outcome ≡ answered (text_value (chars s.now))) }
+{
+    Ok(Outcome::Ok(Value::Text(Text::of(alloc, s)?)))
+}
+
+/// A text so many times over, or `SizeLimit`. An empty text stays empty at once.
+pub(crate) fn repeat_text(alloc: Global, s: &Text, n: u128, line: u32) -> Result<Outcome, NoMemory>
+    ensures { IfOk result (λ outcome. outcome ≡ answered (held_text (times n s.now) line)) }
+{
+    let s = s.as_str();
+    if s.is_empty() {
+        return text(alloc, s);
+    }
+    if n.saturating_mul(s.len() as u128) >= LARGEST as u128 {
+        return Ok(exceed(Limit::Size, line));
+    }
+    text(alloc, repeat_str(alloc, s, n)?.as_str())
+}
+
+fn repeat_str(alloc: Global, s: &str, n: u128) -> Result<String, NoMemory>
+    ensures { IfOk result (λ repeated. string_bytes repeated ≡ times n s.now) }
+{
+    let mut repeated = String::new(alloc);
+    for _ in 0..n {
+        repeated.push_str(s)?;
+    }
+    Ok(repeated)
+}
+
+/// Whether two tuples make one within the limits.
+pub(crate) fn fit_together(a: &Value, b: &Value) -> bool
+    ensures { result ≡ (nat_le (size_of a.now + size_of b.now) 1048577 && nat_le (max (nesting_of a.now) (nesting_of b.now)) 100) }
+{
+    size(a).saturating_add(size(b)) <= LARGEST + 1 && nest(a).max(nest(b)) <= DEEPEST
+}
+
+/// Whether a tuple that isn't empty is within the limits so many times over.
+pub(crate) fn fits_repeated(a: &Value, n: u128) -> bool
+    requires { 1 ≤ n }
+    ensures { result ≡ (nat_lt (n * (size_of a.now - 1)) 1048576 && nat_le (nesting_of a.now) 100) }
+{
+    let members = size(a).saturating_sub(1) as u128;
+    n.saturating_mul(members) < LARGEST as u128 && nest(a) <= DEEPEST
+}
+
+/// The members of one tuple and then those of the other.
+pub(crate) fn join_members(
+    alloc: Global,
+    xs: &[Value],
+    ys: &[Value],
+) -> Result<List<Value>, NoMemory>
+    ensures { IfOk result (λ members. members ≡ xs.now ++ ys.now) }
+{
+    let mut members = List::new(alloc);
+    append(alloc, &mut members, xs)?;
+    append(alloc, &mut members, ys)?;
+    Ok(members)
+}
+
+/// The members so many times over.
+pub(crate) fn repeat_members(alloc: Global, xs: &[Value], n: u128) -> Result<List<Value>, NoMemory>
+    ensures { IfOk result (λ members. members ≡ times n xs.now) }
+{
+    let mut members = List::new(alloc);
+    for _ in 0..n {
+        append(alloc, &mut members, xs)?;
+    }
+    Ok(members)
+}
+
+fn append(alloc: Global, members: &mut List<Value>, more: &[Value]) -> Result<(), NoMemory>
+    ensures { OnOk result (members.new ≡ members.old ++ more.now) }
+{
+    for member in more {
+        members.add(try_copy(alloc, member)?)?;
+    }
+    Ok(())
+}

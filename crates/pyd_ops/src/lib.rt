@@ -1,0 +1,25 @@
+//! The operators and builtin functions of the profile over values (Python Language Reference, section 6,
+//! "Expressions", and the library's "Built-in Functions").
+#![tactic(auto)]
+
+mod answer;
+mod arithmetic;
+mod calls;
+mod characters;
+mod comparing;
+mod indexing;
+mod joining;
+mod membership;
+mod operators;
+mod ranges;
+
+pub use calls::builtin;
+pub use comparing::compare;
+pub use indexing::{Bounds, index, slice};
+pub use membership::contains;
+pub use operators::{binary, unary};
+pub use pyd_value::Builtin;
+pub use ranges::{Span, range_of};
+
+#[cfg(test)]
+mod tests;
