@@ -12,7 +12,7 @@ use Rattle.pyd_value.specs.declared.operator.BinOp.{BinOp}
 use Rattle.pyd_tree.specs.declared.expression.Expr.{Expr, out-Expr}
 use Rattle.pyd_tree.specs.declared.expression.Expr.TheOpen.{Expr-F}
 use Rattle.pyd_meaning.specs.Evaluation.{Evaluation, settled, faults, step, ◌>>=◌}
-use Rattle.pyd_meaning.specs.Operation.{integer, is_within}
+use Rattle.pyd_ops.specs.Integer.{integer, is_within}
 use Rattle.pyd_meaning.specs.Expression.{Place, meaning_of, chained}
 use Rattle.pyd_meaning.proofs.Constructs.{meaning_of_literal, chained_sum}
 use Rattle.pyd_meaning.proofs.Sequencing.{gives-then, faults-then}
@@ -30,11 +30,9 @@ is_within-wide (pos n) wide = false_from_ne_true _ (λ t. wide (record { sfits =
 is_within-wide (negsuc n) wide = false_from_ne_true _ (λ t. wide (record { sfits = ltb-true n (2 ^ 127) t }))
 
 integer-fits : (z : ℤ) (line : ℕ) → FitsSigned w128 z → integer z line ≡ Ok (Int z)
-unfolding integer
 integer-fits z line fits = rw (is_within-fits z fits) refl
 
 integer-wide : (z : ℤ) (line : ℕ) → ¬ FitsSigned w128 z → integer z line ≡ Err (Limit limit.Int line)
-unfolding integer
 integer-wide z line wide = rw (is_within-wide z wide) refl
 
 -- one `+`, and those behind it

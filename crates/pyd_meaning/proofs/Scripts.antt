@@ -8,7 +8,7 @@ use Rattle.pyd_tree.specs.declared.expression.Expr.{Expr}
 use Rattle.pyd_tree.specs.declared.expression.Expr.TheViews.{out-roll-Expr}
 use Rattle.pyd_tree.specs.declared.statement.What.TheViews.{out-roll-What}
 use Rattle.pyd_meaning.specs.Evaluation.{gives, settled, prints, step, ◌>>=◌}
-use Rattle.pyd_meaning.specs.Operation.{integer}
+use Rattle.pyd_ops.specs.Integer.{integer}
 use Rattle.pyd_meaning.specs.Expression.{Place, Meaning, meaning_of, chained, each, called}
 use Rattle.pyd_meaning.specs.Statement.{Names, normally, action_of}
 use Rattle.pyd_meaning.specs.Rows.{literal, sum_of, statement}

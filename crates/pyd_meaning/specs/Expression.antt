@@ -10,7 +10,7 @@ use Rattle.pyd_value.specs.declared.operator.BinOp.{BinOp}
 use Rattle.pyd_tree.specs.declared.expression.Expr.{Expr, fold-Expr}
 use Rattle.pyd_tree.specs.declared.expression.Expr.TheOpen.{Expr-F, Suffix-F}
 use Rattle.pyd_meaning.specs.Evaluation.{Evaluation, settled, gives, faults, prints, step, ◌>>=◌}
-use Rattle.pyd_meaning.specs.Operation.{operated}
+use Rattle.pyd_ops.specs.Operation.{operated}
 use Rattle.pyd_meaning.specs.Printing.{line_of}
 
 -- where an expression stands: the line of its statement or header

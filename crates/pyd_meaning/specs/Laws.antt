@@ -10,7 +10,7 @@ use Rattle.pyd_tree.specs.declared.statement.What.{out-What}
 use Rattle.pyd_tree.specs.declared.statement.What.TheOpen.{What-F}
 use Rattle.pyd_tree.specs.declared.statement.Stmt.{Stmt}
 use Rattle.pyd_meaning.specs.Evaluation.{gives, settled, step, ◌>>=◌}
-use Rattle.pyd_meaning.specs.Operation.{integer}
+use Rattle.pyd_ops.specs.Integer.{integer}
 use Rattle.pyd_meaning.specs.Expression.{Place, Meaning, meaning_of, chained, each, called}
 use Rattle.pyd_meaning.specs.Statement.{Names, normally, action_of}
 

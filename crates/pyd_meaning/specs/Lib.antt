@@ -1,5 +1,4 @@
 pub mod Evaluation
-pub mod Operation
 pub mod Printing
 pub mod Expression
 pub mod Statement
