@@ -1,7 +1,6 @@
 -- Which texts and tuples are within the limits on values.
-use Rattle.std.proofs.Common.{◌≡◌, ◌≢◌, ℕ, zero, suc, ◌+◌, ◌-◌, ◌*◌, ◌<◌, ◌≤◌, min, max, nat_le, nat_lt, List, [], ◌∷◌, ◌++◌, map, length, encode_utf8_all, Bool, true, false, ◌&&◌, cond, Result, Ok, refl, sym, ap, ◌∙◌, arith, length-append, ◌⊎◌, inl, inr, ◌↔◌, IsTrue, rules}
+use Rattle.std.proofs.Common.{◌≡◌, ℕ, zero, suc, ◌+◌, ◌-◌, ◌*◌, ◌<◌, ◌≤◌, max, nat_le, nat_lt, List, [], ◌∷◌, ◌++◌, map, length, encode_utf8_all, Bool, true, false, ◌&&◌, cond, Result, Ok, refl, sym, ap, ◌∙◌, arith, length-append, ◌⊎◌, inl, inr, ◌↔◌, IsTrue, rules}
 use Rattle.std.specs.Str.{chars, IsUtf8}
-use Rattle.std.proofs.lemmas.List.{map-append}
 use Rattle.std.proofs.lemmas.Str.{encodes-append, chars-append, chars-nil}
 use Rattle.pyd_value.specs.declared.value.Value.{Value, Text, Tuple}
 use Rattle.pyd_value.specs.declared.fault.Limit.TheVariants as bound
@@ -11,7 +10,7 @@ use Rattle.pyd_value.specs.declared.fault.Fault.{Fault}
 use Rattle.pyd_value.specs.Shape.{tuple, shape_of}
 use Rattle.pyd_ops.specs.Answer.{exceeds, answered}
 use Rattle.pyd_ops.specs.Operation.{added, repeats}
-use Rattle.pyd_ops.specs.Joining.{is_held, held, held_text, held_tuple, text_value, times}
+use Rattle.pyd_ops.specs.Joining.{is_held, held_text, held_tuple, text_value, times}
 use Rattle.pyd_ops.proofs.Repeats.{encodes_times, times_nothing}
 
 at_most : (n m : ℕ) → n ≤ m → nat_le n m ≡ true
@@ -74,11 +73,11 @@ size_by_kind a xs e = ap size_of e ∙ size_of-tuple xs
 pub nesting_by_kind : (a : Value) (xs : List Value) → a ≡ Tuple xs → nesting_of a ≡ 1 + greatest (map nesting_of xs)
 nesting_by_kind a xs e = ap nesting_of e ∙ nesting_of-tuple xs
 
-total_joined : (xs ys : List Value) → total (map size_of (xs ++ ys)) ≡ total (map size_of xs) + total (map size_of ys)
+pub total_joined : (xs ys : List Value) → total (map size_of (xs ++ ys)) ≡ total (map size_of xs) + total (map size_of ys)
 total_joined [] ys = omega arith
 total_joined (x ∷ xs) ys = omega (arith, total_joined xs ys)
 
-greatest_joined : (xs ys : List Value) → greatest (map nesting_of (xs ++ ys)) ≡ max (greatest (map nesting_of xs)) (greatest (map nesting_of ys))
+pub greatest_joined : (xs ys : List Value) → greatest (map nesting_of (xs ++ ys)) ≡ max (greatest (map nesting_of xs)) (greatest (map nesting_of ys))
 greatest_joined [] ys = omega arith
 greatest_joined (x ∷ xs) ys = omega (arith, greatest_joined xs ys)
 

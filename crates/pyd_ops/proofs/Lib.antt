@@ -5,3 +5,5 @@ pub mod TwosComplement
 pub mod Powers
 pub mod Repeats
 pub mod Holding
+pub mod Keeping
+pub mod Parts

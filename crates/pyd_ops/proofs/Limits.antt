@@ -2,7 +2,6 @@
 use Rattle.std.proofs.Common.{◌≡◌, ℕ, ℤ, pos, negsuc, ◌<◌, ◌^◌, nat_lt, Option, Some, None, cond, true, false, refl, sym, ap, ◌∙◌, arith, FitsSigned, SomeIff, ◌≤◌, Bool, to_z, of_z}
 use Rattle.std.proofs.lemmas.Int.{to_z-of_z}
 use Rattle.std.specs.Int.{w128}
-use Rattle.std.specs.Int.Signed.{mag}
 use Rattle.pyd_ops.specs.Integer.{is_within, within}
 
 below : (n m : ℕ) → n < m → nat_lt n m ≡ true

@@ -1,12 +1,12 @@
 -- Powers and shifts: few bases and exponents stay within the limits.
-use Rattle.std.proofs.Common.{◌≡◌, ◌≢◌, ℕ, zero, suc, ◌+◌, ◌-◌, ◌*◌, ◌%◌, ◌<◌, ◌≤◌, ◌^◌, ℤ, pos, negsuc, neg_ℤ, ◌*ℤ◌, Bool, true, false, cond, ◌==◌, Option, Some, None, refl, sym, ap, subst, ◌∙◌, arith, FitsSigned, SomeIff, to_z, of_z, ◌⊎◌, inl, inr}
+use Rattle.std.proofs.Common.{◌≡◌, ◌≢◌, ℕ, zero, suc, ◌-◌, ◌*◌, ◌%◌, ◌<◌, ◌≤◌, ◌^◌, ℤ, pos, negsuc, neg_ℤ, ◌*ℤ◌, Bool, true, false, cond, ◌==◌, Option, Some, None, refl, sym, ap, ◌∙◌, arith, FitsSigned, SomeIff, to_z, of_z, ◌⊎◌, inl, inr}
 use Rattle.std.specs.Int.{w128, int_pow}
 use Rattle.std.proofs.lemmas.Int.{to_z-of_z, to_z_pos}
 use Rattle.std.proofs.lemmas.Nat.{one_shl, pow_below}
 use Rattle.std.proofs.Math.Nat.{pow-le-pow_left, pow-suc, mul-le-mul_right}
 use Rattle.std.proofs.Math.Pow.{pow_mono}
 use Rattle.pyd_ops.specs.Integer.{within}
-use Rattle.pyd_ops.proofs.Limits.{fits, fits_not, from_checked}
+use Rattle.pyd_ops.proofs.Limits.{fits_not, from_checked}
 use Rattle.pyd_ops.proofs.Division.{zero_seen}
 
 one_power : (n : ℕ) → 1 ^ n ≡ 1

@@ -1,5 +1,5 @@
 -- What is repeated once more.
-use Rattle.std.proofs.Common.{◌≡◌, ℕ, zero, suc, ◌+◌, ◌*◌, List, [], ◌∷◌, ◌++◌, length, take, get_or, ◌<◌, encode_utf8, refl, sym, ap, ◌∙◌, arith, add-one, append_assoc, encode_utf8_all}
+use Rattle.std.proofs.Common.{◌≡◌, ℕ, zero, suc, ◌+◌, List, [], ◌∷◌, ◌++◌, length, take, get_or, ◌<◌, encode_utf8, refl, sym, ap, ◌∙◌, add-one, append_assoc, encode_utf8_all}
 use Rattle.std.proofs.lemmas.List.{append-nil, take_more}
 use Rattle.std.proofs.lemmas.Str.{encodes-append}
 use Rattle.pyd_ops.specs.Joining.{times}

@@ -1,9 +1,9 @@
 -- A text stands within another exactly where its bytes do.
-use Rattle.std.proofs.Common.{◌≡◌, ℕ, ◌+◌, ◌<◌, ◌≤◌, List, [], ◌∷◌, ◌++◌, length, take, drop, Bool, true, false, ◌&&◌, ◌||◌, nat_eq, refl, sym, ap, subst, ◌∙◌, arith, eqb-true, eq-eqb, length-append, encode_utf8_all, slice_index}
+use Rattle.std.proofs.Common.{◌≡◌, ℕ, ◌<◌, ◌≤◌, List, [], ◌∷◌, ◌++◌, length, take, Bool, true, false, ◌&&◌, ◌||◌, nat_eq, refl, sym, ap, subst, ◌∙◌, arith, eqb-true, eq-eqb, length-append, encode_utf8_all, slice_index}
 use Rattle.std.specs.Bool.{Decides, one_answer}
 use Rattle.std.specs.Str.{chars, IsUtf8, IsCharBoundary}
 use Rattle.std.specs.Str.Iter.{HasSubslice}
-use Rattle.std.proofs.lemmas.List.{append-nil, append_assoc, take_at, get_or_at}
+use Rattle.std.proofs.lemmas.List.{append-nil, take_at, get_or_at}
 use Rattle.std.proofs.lemmas.Str.{encodes-append, encodes-chars, chars-append, chars-nil, IsUtf8-take, IsCharBoundary-start}
 use Rattle.pyd_ops.specs.Comparing.{begins, stands_within}
 

@@ -1,5 +1,5 @@
 -- The bits of numbers without a width are those of their 128 bits.
-use Rattle.std.proofs.Common.{◌≡◌, ℕ, zero, suc, ◌+◌, ◌-◌, ◌<◌, ◌≤◌, ◌^◌, ◌%◌, min, max, ℤ, pos, negsuc, bit_and, bit_or, refl, sym, ap, ◌∙◌, arith, FitsSigned, to_z, of_z}
+use Rattle.std.proofs.Common.{◌≡◌, ℕ, ◌+◌, ◌-◌, ◌<◌, ◌^◌, ◌%◌, ℤ, pos, negsuc, bit_and, bit_or, sym, ap, ◌∙◌, arith, FitsSigned, to_z, of_z}
 use Rattle.std.specs.Prelude.{bit_xor}
 use Rattle.std.specs.Int.{w128, bit_at, bit_not}
 use Rattle.std.proofs.lemmas.Int.{to_z-of_z, to_z_pos}

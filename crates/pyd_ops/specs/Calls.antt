@@ -7,7 +7,7 @@ use Rattle.pyd_value.specs.declared.fault.Kind.TheVariants.{TypeError, ValueErro
 use Rattle.pyd_value.specs.declared.operator.BinOp.TheVariants.{Add}
 use Rattle.pyd_value.specs.declared.operator.Builtin.{Builtin}
 use Rattle.pyd_value.specs.declared.operator.Builtin.TheVariants as builtin
-use Rattle.pyd_value.specs.Shape.{Shape, number, text, tuple, nothing, shape_of, number_of}
+use Rattle.pyd_value.specs.Shape.{Shape, number, text, tuple, shape_of, number_of}
 use Rattle.pyd_value.specs.Truth.{is_true}
 use Rattle.pyd_ops.specs.Answer.{raises}
 use Rattle.pyd_ops.specs.Integer.{integer}

@@ -1,5 +1,5 @@
 -- Comparisons and membership (Python Language Reference, 6.10).
-use Rattle.std.specs.Prelude.{ℕ, List, [], ◌∷◌, nat_eq, Bool, true, false, not, ◌&&◌, ◌||◌, Option, Some, option_map, Result, Ok, Err}
+use Rattle.std.specs.Prelude.{ℕ, List, [], ◌∷◌, nat_eq, Bool, true, false, not, ◌&&◌, ◌||◌, Option, Some, option_map, Result, Ok}
 use Rattle.std.specs.List.{list_any}
 use Rattle.std.specs.Ordering.{is_lt, is_le, is_gt, is_ge}
 use Rattle.std.specs.declared.cmp.Ordering.{Ordering}
@@ -8,7 +8,7 @@ use Rattle.pyd_value.specs.declared.fault.Fault.{Fault}
 use Rattle.pyd_value.specs.declared.fault.Kind.TheVariants.{TypeError}
 use Rattle.pyd_value.specs.declared.operator.CmpOp.{CmpOp}
 use Rattle.pyd_value.specs.declared.operator.CmpOp.TheVariants.{Eq, Ne, Lt, Le, Gt, Ge, In, NotIn}
-use Rattle.pyd_value.specs.Shape.{Shape, number, text, tuple, nothing, shape_of}
+use Rattle.pyd_value.specs.Shape.{Shape, text, tuple, shape_of}
 use Rattle.pyd_value.specs.Comparison.{comparison_of}
 use Rattle.pyd_value.specs.Equality.{is_equal}
 use Rattle.pyd_value.specs.Order.{ordered}

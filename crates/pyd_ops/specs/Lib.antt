@@ -8,3 +8,4 @@ pub mod Comparing
 pub mod Spans
 pub mod Indexing
 pub mod Calls
+pub mod Limits

@@ -10,7 +10,7 @@ use Rattle.pyd_value.specs.declared.operator.BinOp.{BinOp}
 use Rattle.pyd_value.specs.declared.operator.BinOp.TheVariants.{Add, Mul, Mod, And, Or, Xor}
 use Rattle.pyd_value.specs.declared.operator.UnOp.{UnOp}
 use Rattle.pyd_value.specs.declared.operator.UnOp.TheVariants.{Neg, Pos, Not}
-use Rattle.pyd_value.specs.Shape.{Shape, number, text, tuple, nothing, shape_in, shape_of, number_of}
+use Rattle.pyd_value.specs.Shape.{Shape, number, text, tuple, shape_in, shape_of, number_of}
 use Rattle.pyd_value.specs.Truth.{is_true}
 use Rattle.pyd_ops.specs.Answer.{raises, exceeds}
 use Rattle.pyd_ops.specs.Integer.{integer, at_least_none}

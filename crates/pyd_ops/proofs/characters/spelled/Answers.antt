@@ -1,4 +1,4 @@
-use Rattle.std.proofs.Common.{◌≡◌, ◌++◌, ◌∙◌, ap, sym, string_bytes, rules, arith, get_or, encode_utf8}
+use Rattle.std.proofs.Common.{◌≡◌, ◌++◌, ◌∙◌, ap, string_bytes, rules, encode_utf8}
 use Rattle.pyd_ops.proofs.Repeats.{spelled_more}
 use Rattle.pyd_ops.proofs.characters.spelled.Goals as goal
 

@@ -1,5 +1,4 @@
 use Rattle.std.proofs.Common.{◌≡◌, ◌++◌, ◌∙◌, ap, rules}
-use Rattle.pyd_ops.specs.Joining.{times}
 use Rattle.pyd_ops.proofs.Repeats.{times_more}
 use Rattle.pyd_ops.proofs.joining.repeat_members.Goals as goal
 

@@ -1,5 +1,5 @@
 -- The size and nesting of a tuple tell whether it is within the limits so many times over.
-use Rattle.std.proofs.Common.{◌≡◌, ◌≤◌, ◌∙◌, ap, sym, true, false, rules}
+use Rattle.std.proofs.Common.{◌∙◌, ap, sym, true, false, rules}
 use Rattle.pyd_value.specs.declared.value.Value.{Tuple}
 use Rattle.pyd_value.specs.declared.fault.Outcome.TheVariants as outcome
 use Rattle.pyd_ops.specs.Joining.{times}
