@@ -1,5 +1,5 @@
 -- The characters come one after another, and the one at the place is told.
-use Rattle.std.proofs.Common.{◌≡◌, ◌∙◌, ap, sym, slice_get}
+use Rattle.std.proofs.Common.{◌∙◌, ap, sym, slice_get}
 use Rattle.std.proofs.lemmas.Iterator.{YieldsList-from_chars}
 use Rattle.std.proofs.lemmas.Iterator.Adapters.{option_map_id}
 use Rattle.std.proofs.lemmas.Iterator.Consumers.{nth_from_yields_List}

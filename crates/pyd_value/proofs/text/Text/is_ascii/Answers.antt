@@ -1,5 +1,5 @@
 -- The count of characters is the length in bytes exactly where all of them are ASCII.
-use Rattle.std.proofs.Common.{◌≡◌, ◌∙◌, ap, sym, length, nat_eq}
+use Rattle.std.proofs.Common.{◌∙◌, ap, sym, length, nat_eq}
 use Rattle.pyd_value.proofs.Ascii.{same_length, own_bytes}
 use Rattle.pyd_value.proofs.text.Text.is_ascii.Goals as goal
 
