@@ -1,10 +1,10 @@
 -- Extending histories, and the number of a seat's entries.
-use Rattle.std.proofs.Common.{◌≡◌, ◌≢◌, ℕ, ◌+◌, ◌≤◌, ◌==◌, List, [], ◌∷◌, ◌++◌, Bool, true, false, cond, length, count_by, refl, sym, ap, ◌∙◌, arith, append_assoc, append-nil, ne_eqb, eq-eqb}
-use Rattle.std.proofs.lemmas.List.Elements.{All-nil, All-head, All-tail, All-append}
+use Rattle.std.proofs.Common.{Result, Ok, Err, OnOk, ◌≡◌, ◌≢◌, ℕ, ◌+◌, ◌≤◌, ◌==◌, List, [], ◌∷◌, ◌++◌, Bool, true, false, cond, length, count_by, refl, sym, ap, ◌∙◌, arith, append_assoc, append-nil, ne_eqb, eq-eqb}
+use Rattle.std.proofs.lemmas.List.Elements.{All-nil, All-cons, All-head, All-tail, All-append}
 use Rattle.std.proofs.lemmas.List.Sums.{sum_by-append, sum_by-cons}
 use Rattle.pyd_board.specs.declared.event.Event.{Event}
 use Rattle.pyd_board.specs.declared.history.History.{History}
-use Rattle.pyd_board.specs.Histories.{entries, entries_of, AllBy, Extends, ExtendsBy}
+use Rattle.pyd_board.specs.Histories.{entries, entries_of, AllBy, events_alone, Extends, ExtendsBy}
 use Rattle.pyd_board.specs.Laws.{EntriesGrow}
 
 -- a history extends itself, by no entry of any seat
@@ -32,6 +32,18 @@ unfolding extends_trans
 by_trans seat a b c p q = record {
   extends = extends_trans a b c p.extends q.extends;
   alone = All-append (λ (e : Event). e.by ≡ seat) p.extends.events.0 q.extends.events.0 p.alone q.alone;
+}
+
+-- what follows from a fact follows where it holds on success
+pub ok_then : {T E : Type 0} {P Q : Type 0} (r : Result T E) → (P → Q) → OnOk r P → OnOk r Q
+ok_then (Ok v) f p = f p
+ok_then (Err e) f p = tt
+
+-- events alone are extended by an entry of the seat
+pub appended_by : (seat : ℕ) (events after : List Event) (e : Event) → e.by ≡ seat → after ≡ events ++ e ∷ [] → ExtendsBy seat (events_alone events) (events_alone after)
+appended_by seat events after e own more = record {
+  extends = record { events = (e ∷ [], more); sink_faults = λ run c. c; halted = λ why none. none };
+  alone = All-cons (λ (x : Event). x.by ≡ seat) e [] own (All-nil (λ (x : Event). x.by ≡ seat));
 }
 
 -- entries are counted list by list

@@ -1,5 +1,5 @@
 -- Which histories extend another, and how many entries of one are a seat's.
-use Rattle.std.specs.Prelude.{◌≡◌, ◌==◌, ◌++◌, ℕ, List, Some, All, Contains, count_by}
+use Rattle.std.specs.Prelude.{◌≡◌, ◌==◌, ◌++◌, ℕ, List, [], Some, None, All, Contains, count_by}
 use Rattle.pyd_board.specs.declared.event.Event.{Event}
 use Rattle.pyd_board.specs.declared.history.Halt.{Halt}
 use Rattle.pyd_board.specs.declared.history.History.{History}
@@ -15,6 +15,10 @@ entries_of seat history = entries seat history.events
 -- all of the events are by the seat
 abbrev pub AllBy : ℕ → List Event → Type 0
 AllBy seat events = All (λ e. e.by ≡ seat) events
+
+-- the history of events alone: no run keeps a sink fault, and there is no halt
+abbrev pub events_alone : List Event → History
+events_alone events = record { events = events; sink_faults = []; halted = None }
 
 -- its events begin with the old one's, and each kept sink fault and a halt that were there are still there
 pub record Extends (old new : History) : Type 0 where

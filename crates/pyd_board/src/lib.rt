@@ -5,6 +5,7 @@
 mod event;
 mod gate;
 mod history;
+mod journal;
 mod kept;
 mod laws;
 mod machines;
@@ -19,6 +20,7 @@ mod setup;
 pub use event::{Act, Event};
 pub use gate::{Gate, OpenGate};
 pub use history::{Halt, History};
+pub use journal::{Journal, entries};
 pub use kept::{Kept, RunName};
 pub use laws::{
     a_history_extends_itself, entries_grow, extending_is_transitive, extensions_by_one_seat_are_one,
@@ -31,3 +33,6 @@ pub use round_robin::RoundRobin;
 pub use runner::{Answer, Runner};
 pub use seat::{Ticket, Who};
 pub use setup::{Loss, Setup};
+
+#[cfg(test)]
+mod tests;
