@@ -1,5 +1,5 @@
 -- Extending histories, and the number of a seat's entries.
-use Rattle.std.proofs.Common.{Result, Ok, Err, OnOk, ◌≡◌, ◌≢◌, ℕ, ◌+◌, ◌≤◌, ◌==◌, List, [], ◌∷◌, ◌++◌, Bool, true, false, cond, length, count_by, refl, sym, ap, ◌∙◌, arith, append_assoc, append-nil, ne_eqb, eq-eqb}
+use Rattle.std.proofs.Common.{◌≡◌, ◌≢◌, ℕ, ◌+◌, ◌≤◌, ◌==◌, List, [], ◌∷◌, ◌++◌, Bool, true, false, cond, length, count_by, refl, sym, ap, ◌∙◌, arith, append_assoc, append-nil, ne_eqb, eq-eqb}
 use Rattle.std.proofs.lemmas.List.Elements.{All-nil, All-cons, All-head, All-tail, All-append}
 use Rattle.std.proofs.lemmas.List.Sums.{sum_by-append, sum_by-cons}
 use Rattle.pyd_board.specs.declared.event.Event.{Event}
@@ -33,11 +33,6 @@ by_trans seat a b c p q = record {
   extends = extends_trans a b c p.extends q.extends;
   alone = All-append (λ (e : Event). e.by ≡ seat) p.extends.events.0 q.extends.events.0 p.alone q.alone;
 }
-
--- what follows from a fact follows where it holds on success
-pub ok_then : {T E : Type 0} {P Q : Type 0} (r : Result T E) → (P → Q) → OnOk r P → OnOk r Q
-ok_then (Ok v) f p = f p
-ok_then (Err e) f p = tt
 
 -- events alone are extended by an entry of the seat
 pub appended_by : (seat : ℕ) (events after : List Event) (e : Event) → e.by ≡ seat → after ≡ events ++ e ∷ [] → ExtendsBy seat (events_alone events) (events_alone after)

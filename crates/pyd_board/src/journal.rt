@@ -3,13 +3,13 @@ ghost use Rattle.std.specs.Prelude.{◌≡◌, ◌++◌, ◌∷◌, [], OnOk, On
 ghost use Rattle.pyd_board.specs.Histories as spec;
 
 use crate::{Act, Event, Kept};
-use pyd_value::{List, NoMemory};
+use pyd_value::NoMemory;
 use std::alloc::Global;
 
 /// The least value that a lock can keep: events that belong to no run.
 #[derive(Debug, Drop)]
 pub struct Journal {
-    events: List<Event>,
+    events: Vec<Event>,
 }
 
 impl Kept for Journal {
@@ -18,34 +18,35 @@ impl Kept for Journal {
 
     ghost name = { λ _. [] };
 
-    ghost history = { λ journal. events_alone journal.events };
+    ghost history = { λ journal. events_alone journal.events.items };
 }
 
 impl Journal {
     /// A journal without entries, which grows on this allocator.
     pub fn new(alloc: Global) -> Journal
-        ensures { result.events ≡ [] }
+        ensures { result.events.items ≡ [] }
     {
         Journal {
-            events: List::new(alloc),
+            events: Vec::new(alloc),
         }
     }
 
     /// Appends an entry by the seat. Where there is no memory, nothing changes.
     pub fn append(&mut self, by: u32, act: Act) -> Result<(), NoMemory>
-        ensures ok { OnOk result (self.new.events ≡ self.old.events
-            ++ record { by = by; nth = spec.entries by self.old.events; act = act } ∷ []) }
+        ensures ok { OnOk result (self.new.events.items ≡ self.old.events.items
+            ++ record { by = by; nth = spec.entries by self.old.events.items; act = act } ∷ []) }
         ensures extends { OnOk result (spec.ExtendsBy by
-            (spec.events_alone self.old.events) (spec.events_alone self.new.events)) }
-        ensures same { OnErr result (self.new ≡ self.old) }
+            (spec.events_alone self.old.events.items) (spec.events_alone self.new.events.items)) }
+        ensures same { OnErr result (self.new.events.items ≡ self.old.events.items) }
     {
         let nth = entries(by, self.events()) as u64;
-        self.events.add(Event { by, nth, act })
+        self.events.push(Event { by, nth, act })?;
+        Ok(())
     }
 
     /// The entries in order.
     pub fn events(&self) -> &[Event]
-        ensures { result.now ≡ self.now.events }
+        ensures { result.now ≡ self.now.events.items }
     {
         self.events.as_slice()
     }

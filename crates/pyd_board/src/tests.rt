@@ -1,5 +1,6 @@
 //! Placers by rows, a journal, and each trait through its bound.
-ghost use Rattle.std.specs.Prelude.{IfOk, IsTrue, Contains, true};
+ghost use Rattle.std.specs.Prelude.{OnOk};
+ghost use Rattle.pyd_board.specs.Histories.{ExtendsBy, events_alone};
 
 mod serving;
 
@@ -125,12 +126,25 @@ fn pass<G: Gate>(gate: &G) {
     gate.after(1, 7);
 }
 
+// Settles two nodes, one after the other.
+fn settle_both(journal: &mut Journal, by: u32, nodes: (u64, u64)) -> Result<(), NoMemory>
+    ensures { OnOk result (ExtendsBy by
+        (events_alone journal.old.events.items) (events_alone journal.new.events.items)) }
+{
+    journal.append(by, Act::Settle(nodes.0))?;
+    journal.append(by, Act::Settle(nodes.1))?;
+    extensions_by_one_seat_are_one();
+    Ok(())
+}
+
 #[test]
 fn a_journal_numbers_the_entries_of_each_seat(rt: HostRuntime) -> Result<(), Fail> {
     pass(&OpenGate);
     let mut journal = Journal::new(rt.alloc());
-    let rows = [(0, 0), (2, 0), (1, 0), (2, 1), (0, 1), (2, 2)];
-    for (by, nth) in rows {
+    settle_both(&mut journal, 2, (0, 1))?;
+    let rows = [(2, 0), (2, 1), (0, 0), (1, 0), (2, 2), (0, 1), (2, 3)];
+    for (by, nth) in &rows[2..] {
+        let (by, nth) = (*by, *nth);
         assert_eq!(rt; entries(by, journal.events()) as u64, nth);
         journal.append(by, Act::Settle(nth))?;
     }
