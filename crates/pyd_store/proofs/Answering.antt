@@ -1,9 +1,8 @@
 -- A finite map has at each node what the last call on it left there.
-use Rattle.std.proofs.Common.{◌≡◌, ◌≢◌, ◌∙◌, ℕ, Bool, true, false, Some, None, cond, refl, ap, Ordering, Less, Equal, Greater}
+use Rattle.std.proofs.Common.{◌≡◌, ◌≢◌, ◌∙◌, ℕ, true, false, Some, None, cond, refl, ap, Ordering, Less, Equal, Greater}
 use Rattle.std.specs.Ordering.{nat_cmp, eq_by_cmp, is_eq}
 use Rattle.std.specs.Cmp.{nat_cmp_total, eq_by_cmp_equiv, ranked}
-use Rattle.std.specs.FinMap.{empty, get, insert, remove, get-empty, get-insert, get-remove, nat_cmp-IsAntisymmetric}
-use Rattle.pyd_value.specs.declared.fault.Outcome.{Outcome}
+use Rattle.std.specs.FinMap.{get, get-empty, get-insert, get-remove}
 use Rattle.pyd_store.specs.Laws.{MapLaws}
 
 same : (k : ℕ) → eq_by_cmp nat_cmp k k ≡ true

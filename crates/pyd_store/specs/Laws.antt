@@ -3,10 +3,7 @@ use Rattle.std.specs.Prelude.{◌≡◌, ◌≢◌, ℕ, Some, None}
 use Rattle.std.specs.Ordering.{nat_cmp}
 use Rattle.std.specs.FinMap as map
 use Rattle.pyd_value.specs.declared.fault.Outcome.{Outcome}
-
--- a store as its callers see it: a finite map from nodes to outcomes
-abbrev pub Outcomes : Type 0
-Outcomes = map.FinMap nat_cmp Outcome
+use Rattle.pyd_store.specs.Outcomes.{Outcomes}
 
 -- what a store has at a node after each call
 pub record MapLaws : Type 0 where

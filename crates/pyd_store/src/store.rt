@@ -1,5 +1,7 @@
 //! A finite map from nodes to outcomes.
-ghost use Rattle.std.specs.Prelude.{◌≡◌, OnOk, OnErr, IfErr};
+ghost use Rattle.std.specs.Prelude.{◌≡◌, Some, OnOk, OnErr, IfErr};
+ghost use Rattle.std.specs.Ordering.{nat_cmp};
+ghost use Rattle.std.specs.BTreeMap.{IsUnchanged, Updates};
 ghost use Rattle.std.specs.Option.{option_copied};
 ghost use Rattle.std.specs.FinMap as map;
 
@@ -16,12 +18,11 @@ pub struct Store {
 
 impl Model for Store {
     ghost use Rattle.std.specs.FinMap as map;
-    ghost use Rattle.std.specs.Ordering.{nat_cmp};
     ghost use Rattle.std.specs.Coded.{coded_ℕ};
-    ghost use Rattle.pyd_value.specs.declared.fault.Outcome.{Outcome as Kept};
     ghost use Rattle.pyd_value.specs.contracts.fault.Outcome as row;
+    ghost use Rattle.pyd_store.specs.Outcomes.{Outcomes};
 
-    ghost Value = { map.FinMap nat_cmp Kept };
+    ghost Value = { Outcomes };
 
     ghost coded = { map.code coded_ℕ row.the_row.coded };
 
@@ -45,16 +46,7 @@ impl Store {
         ensures same { OnErr result (self.new ≡ self.old) }
         ensures returned { IfErr result (λ e. e.0 ≡ outcome) }
     {
-        match self.outcomes.insert(node, outcome) {
-            Ok(earlier) => {
-                drop(earlier);
-                Ok(())
-            }
-            Err(failed) => {
-                let (_, outcome) = failed.value;
-                Err((outcome, NoMemory))
-            }
-        }
+        put_in(&mut self.outcomes, node, outcome)
     }
 
     /// The outcome of a node, or none where the node has no entry.
@@ -76,5 +68,27 @@ impl Store {
         ensures { self.new ≡ map.empty }
     {
         self.outcomes.clear();
+    }
+}
+
+// Puts an entry into the tree, and drops an earlier one of the node.
+fn put_in(
+    outcomes: &mut BTreeMap<u64, Outcome>,
+    node: u64,
+    outcome: Outcome,
+) -> Result<(), (Outcome, NoMemory)>
+    ensures ok { OnOk result (Updates nat_cmp outcomes.old outcomes.new node (Some outcome)) }
+    ensures same { OnErr result (IsUnchanged outcomes.old outcomes.new) }
+    ensures returned { IfErr result (λ e. e.0 ≡ outcome) }
+{
+    match outcomes.insert(node, outcome) {
+        Ok(earlier) => {
+            drop(earlier);
+            Ok(())
+        }
+        Err(failed) => {
+            let (_, outcome) = failed.value;
+            Err((outcome, NoMemory))
+        }
     }
 }
