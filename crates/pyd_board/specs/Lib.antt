@@ -1,0 +1,5 @@
+pub mod Histories
+pub mod Laws
+pub mod Noting
+pub mod Placing
+pub mod Serving
