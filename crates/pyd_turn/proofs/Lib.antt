@@ -1,0 +1,6 @@
+pub mod Closing
+pub mod Giving
+pub mod Seating
+pub mod Taking
+pub mod Viewing
+pub mod Writing
