@@ -1,5 +1,6 @@
 pub mod Closing
 pub mod Giving
+pub mod Listing
 pub mod Seating
 pub mod Taking
 pub mod Viewing

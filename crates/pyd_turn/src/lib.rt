@@ -10,3 +10,6 @@ mod waiting;
 
 pub use seat::{Seat, TurnLock};
 pub use view::{Stage, Tally, View};
+
+#[cfg(test)]
+mod tests;

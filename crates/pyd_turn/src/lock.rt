@@ -4,7 +4,7 @@ ghost use Rattle.pyd_board.specs.Histories.{AllBy, entries_of, Extends, ExtendsB
 ghost use Rattle.pyd_turn.specs.Seats.{AllCounted, IsFirst, IsFree, IsHolding, IsLaterOf, IsNewcomer, IsSame, IsSameStage, IsSeatOf, ListsAll, joined, made, name_of, number, own_entries, seen, tally_of};
 
 use crate::rule::{Cut, Glue, Learn, Leave, Queue, SERVING, TICKET, VALUE};
-use crate::waiting::await_turn;
+use crate::waiting::{await_turn, wake_waiting};
 use crate::{Seat, TurnLock};
 use atomic_table::{Refused, Table};
 use pyd_board::Kept;
