@@ -107,14 +107,11 @@ impl<T: Kept> TurnLock<T> {
         ensures same { IsSame seat.old seat.new × IsFree seat.new }
         ensures kept { (made seat.new ≡ made seat.old) × (joined seat.new ≡ joined seat.old) }
     {
-        let before = self
-            .table
-            .shared
-            .exchange(&mut seat.place, VALUE, Some(value));
+        let board = &self.table.shared;
+        let before = board.exchange(&mut seat.place, VALUE, Some(value));
         let None = before else { unreachable!() };
-        self.table
-            .shared
-            .fetch_add::<Leave>(&mut seat.place, SERVING, 1);
+        let turn = board.fetch_add::<Leave>(&mut seat.place, SERVING, 1);
+        wake_waiting(board, turn);
     }
 
     /// The value at home, once every other seat was joined.
