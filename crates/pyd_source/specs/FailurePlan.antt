@@ -1,7 +1,7 @@
 -- Calls that fail at set numbers and move a few bytes at a time.
 use Rattle.std.specs.Prelude.{ℕ, Bool, List, [], ◌∷◌, Option, Some, None, refl}
 use Rattle.std.specs.Coded.{Coded, code_by, coded×, coded_list, coded_ℕ}
-use Rattle.pyd_source.specs.Faults.{counted, raised}
+use Rattle.pyd_source.specs.Faults.{count_after, raised}
 
 -- the numbers of the calls that fail, the most bytes that a call moves, the next call's number, and the faults so far
 pub record FailurePlan : Type 0 where
@@ -18,7 +18,7 @@ begun fails step = record { fails = fails; step = step; number = 0; faults = 0 }
 abbrev pub called : Bool → FailurePlan → FailurePlan
 called failed plan = record plan {
   number = raised plan.number;
-  faults = counted failed plan.faults;
+  faults = count_after failed plan.faults;
 }
 
 -- what a source in memory has left, and how its calls go
@@ -40,16 +40,19 @@ told_room store = told store.plan.fails
     told [] = Some store.room
     told (_ ∷ _) = None
 
+-- how the fields of a plan are coded
 abbrev pub plan_code : Coded FailurePlan
 plan_code =
     code_by (List ℕ × (ℕ × (ℕ × ℕ))) (coded× (coded_list coded_ℕ) (coded× coded_ℕ (coded× coded_ℕ coded_ℕ)))
     (λ s. (s.fails, (s.step, (s.number, s.faults)))) (λ p. record { fails = p.0; step = p.1.0; number = p.1.1.0; faults = p.1.1.1 }) (λ _. refl)
 
+-- how the fields of a supply are coded
 abbrev pub supply_code : Coded Supply
 supply_code =
     code_by (List ℕ × FailurePlan) (coded× (coded_list coded_ℕ) plan_code)
     (λ s. (s.left, s.plan)) (λ p. record { left = p.0; plan = p.1 }) (λ _. refl)
 
+-- how the fields of a store are coded
 abbrev pub store_code : Coded Store
 store_code =
     code_by (List ℕ × (ℕ × FailurePlan)) (coded× (coded_list coded_ℕ) (coded× coded_ℕ plan_code))

@@ -6,8 +6,8 @@ abbrev pub raised : ℕ → ℕ
 raised count = min (count + 1) (2 ^ 64 - 1)
 
 -- a count after a call that failed or didn't
-abbrev pub counted : Bool → ℕ → ℕ
-counted failed count = if failed then raised count else count
+abbrev pub count_after : Bool → ℕ → ℕ
+count_after failed count = if failed then raised count else count
 
 -- a count rose: a count at the end of its type is said to have risen too
 abbrev pub Rose : ℕ → ℕ → Type 0

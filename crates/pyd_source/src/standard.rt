@@ -1,7 +1,7 @@
 //! The adapters to std's readers and writers. They tell nothing of content.
 ghost use Rattle.std.specs.Prelude.{◌≡◌, ◌<◌, ◌≤◌, length, false, None, IfOk, IsErr, is_err};
 ghost use Rattle.std.specs.Io.KnownBytes.{ReadConsumes, WriteAppends};
-ghost use Rattle.pyd_source.specs.Faults.{Counted, counted, raised};
+ghost use Rattle.pyd_source.specs.Faults.{Counted, count_after, raised};
 
 use crate::{Failed, Sink, Source};
 use std::io::{Read, Write};
@@ -34,7 +34,7 @@ impl<R: Read> Source for StdSource<R> {
         // What std says of a read, of the reader within.
         ensures bytes { ReadConsumes (R.remaining self.old.inner) (R.remaining self.new.inner)
             result buf.new }
-        ensures faults { self.new.faults ≡ counted (is_err result) self.old.faults }
+        ensures faults { self.new.faults ≡ count_after (is_err result) self.old.faults }
         ensures cause { Counted self.old.faults self.new.faults (IsErr result) }
     {
         match self.inner.read(buf) {
@@ -77,7 +77,7 @@ impl<W: Write> Sink for StdSink<W> {
         // What std says of a write, of the writer within.
         ensures bytes { WriteAppends (W.contents self.old.inner) (W.contents self.new.inner)
             result piece.now }
-        ensures faults { self.new.faults ≡ counted (is_err result) self.old.faults }
+        ensures faults { self.new.faults ≡ count_after (is_err result) self.old.faults }
         ensures cause { Counted self.old.faults self.new.faults (IsErr result) }
     {
         match self.inner.write(piece) {
