@@ -10,7 +10,8 @@ use Rattle.pyd_meaning.specs.Evaluation.{Evaluation, settled, ◌>>=◌}
 use Rattle.pyd_meaning.specs.Statement.{Reached, Action, Names, normally, left_by, in_turn, action_of}
 use Rattle.pyd_meaning.specs.Module.{no_names, end_of, ended_by, bytes_of}
 use Rattle.pyd_core.specs.Outcome.{IsSilent, PrintsSumOf, Prints}
-use Rattle.pyd_core.specs.Settling.{AddedPrefix, Gathers, Settles, line_bytes, run_of}
+use Rattle.pyd_source.specs.Content.{AddedPrefix}
+use Rattle.pyd_core.specs.Settling.{Gathers, Settles, line_bytes, run_of}
 use Rattle.pyd_core.proofs.Putting.{gathers_none, gathers_more, prefix_more}
 
 -- a line, and then the rest

@@ -6,13 +6,6 @@ use Rattle.pyd_meaning.specs.Evaluation.{Evaluation}
 use Rattle.pyd_meaning.specs.Statement.{Reached, action_of, in_turn}
 use Rattle.pyd_meaning.specs.Module.{statements_of, no_names, end_of, bytes_of}
 
--- some of these bytes were put, from the first on
-pub record AddedPrefix (before : Option (List ℕ)) (bytes : List ℕ) (after : Option (List ℕ)) : Type 0 where
-  pub gone : List ℕ
-  pub rest : List ℕ
-  pub added : Added before gone after
-  pub whole : gone ++ rest ≡ bytes
-
 -- what was put, what waits and what is still to come are these bytes
 pub record Gathers (before after : Option (List ℕ)) (waiting coming bytes : List ℕ) : Type 0 where
   pub gone : List ℕ

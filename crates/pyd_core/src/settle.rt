@@ -1,17 +1,17 @@
 //! Settles the statements of a file in order, on one thread.
 ghost use Rattle.std.specs.Prelude.{◌≡◌, [], ◌++◌, All, IfOk, OnOk, OnErr, IsErrOf};
 ghost use Rattle.std.specs.Fmt.{signed_decimal};
-ghost use Rattle.pyd_source.specs.Content.{Added};
+ghost use Rattle.pyd_source.specs.Content.{Added, AddedPrefix};
 ghost use Rattle.pyd_source.specs.Faults.{Counted};
 ghost use Rattle.pyd_meaning.specs.Module.{mean, end_of, ended_by, bytes_of};
-ghost use Rattle.pyd_core.specs.declared.settle.Halt.TheVariants.{NoMemory};
+ghost use Rattle.pyd_core.specs.declared.settle.Halt.TheVariants.{NoMemory, SinkFault};
 ghost use Rattle.pyd_core.specs.Outcome.{IsLimit, IsUnraised};
-ghost use Rattle.pyd_core.specs.Settling.{AddedPrefix, Gathers, line_bytes, run_of};
+ghost use Rattle.pyd_core.specs.Settling.{Gathers, line_bytes, run_of};
 ghost use Rattle.pyd_core.specs.Sums.{IsSums, PrintsSum};
 
 use crate::sum::printed_sum;
 use itoa::Buffer;
-use pyd_source::{Sink, put_all};
+use pyd_source::{Short, Sink, put_all};
 use pyd_tree::{File, Item};
 use pyd_value::{End, Fault};
 use std::alloc::{AllocError, AllocFailed, Global};
@@ -43,6 +43,14 @@ impl<T: Drop> From<AllocFailed<T>> for Halt {
     }
 }
 
+impl From<Short> for Halt {
+    ghost from_gives = { λ _ halt. halt ≡ SinkFault };
+
+    fn from(_: Short) -> Self {
+        Halt::SinkFault
+    }
+}
+
 /// Writes the lines that this file prints, and answers how it ends.
 pub fn settle_all<K: Sink>(alloc: Global, file: &File, sink: &mut K) -> Result<End, Halt>
     requires { IsSums file.now }
@@ -57,7 +65,7 @@ pub fn settle_all<K: Sink>(alloc: Global, file: &File, sink: &mut K) -> Result<E
 {
     let mut waiting = Vec::new(alloc);
     let end = gather(file.items.as_slice(), sink, &mut waiting)?;
-    put_out(sink, &waiting)?;
+    put_all(sink, &waiting)?;
     Ok(end)
 }
 
@@ -94,7 +102,7 @@ fn add_line<K: Sink>(sum: i128, sink: &mut K, waiting: &mut Vec<u8>) -> Result<(
 {
     append_line(sum, waiting)?;
     if waiting.len() >= GATHERED {
-        put_out(sink, waiting)?;
+        put_all(sink, waiting)?;
         waiting.clear();
     }
     Ok(())
@@ -108,18 +116,6 @@ fn append_line(sum: i128, waiting: &mut Vec<u8>) -> Result<(), AllocError>
     waiting.extend_from_slice(buffer.format(sum).as_bytes())?;
     waiting.push(b'\n')?;
     Ok(())
-}
-
-fn put_out<K: Sink>(sink: &mut K, bytes: &[u8]) -> Result<(), Halt>
-    ensures ok { OnOk result (Added (K.held sink.old) bytes.now (K.held sink.new)) }
-    ensures err { OnErr result (AddedPrefix (K.held sink.old) bytes.now (K.held sink.new)) }
-    ensures cause { Counted (K.faults sink.old) (K.faults sink.new)
-        (IsErrOf result Halt.SinkFault) }
-{
-    match put_all(sink, bytes) {
-        Ok(()) => Ok(()),
-        Err(_) => Err(Halt::SinkFault),
-    }
 }
 
 /// The end of a program that this limit ends.

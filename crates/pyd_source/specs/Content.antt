@@ -25,6 +25,13 @@ Emptied before after = after ≡ option_map (λ _. []) before
 abbrev pub Added : Option (List ℕ) → List ℕ → Option (List ℕ) → Type 0
 Added before bytes after = after ≡ option_map (λ held. held ++ bytes) before
 
+-- some of these bytes were added, from the first on
+pub record AddedPrefix (before : Option (List ℕ)) (bytes : List ℕ) (after : Option (List ℕ)) : Type 0 where
+  pub gone : List ℕ
+  pub rest : List ℕ
+  pub added : Added before gone after
+  pub whole : gone ++ rest ≡ bytes
+
 -- the room was this much larger
 abbrev pub Lowered : Option ℕ → ℕ → Option ℕ → Type 0
 Lowered before count after = before ≡ option_map (λ room. room + count) after

@@ -1,9 +1,13 @@
 -- What a count of faults says of a call.
-use Rattle.std.specs.Prelude.{ℕ, ◌+◌, ◌-◌, ◌^◌, ◌≤◌, min}
+use Rattle.std.specs.Prelude.{ℕ, Bool, ◌+◌, ◌-◌, ◌^◌, ◌≤◌, min, if◌then◌else◌}
 
 -- a count after one more fault: it stays at the end of its type once it is there
 abbrev pub raised : ℕ → ℕ
 raised count = min (count + 1) (2 ^ 64 - 1)
+
+-- a count after a call that failed or didn't
+abbrev pub count_after : Bool → ℕ → ℕ
+count_after failed count = if failed then raised count else count
 
 -- a count rose: a count at the end of its type is said to have risen too
 abbrev pub Rose : ℕ → ℕ → Type 0

@@ -1,3 +1,3 @@
 pub mod Content
 pub mod Faults
-pub mod Script
+pub mod FailurePlan

@@ -2,11 +2,11 @@
 #![tactic(auto)]
 
 mod failed;
+mod failure_plan;
 mod mem_sink;
 mod mem_source;
 mod null_sink;
 mod reading;
-mod script;
 mod sink;
 mod source;
 mod standard;

@@ -1,9 +1,9 @@
 //! A sink in memory, which fails where it is told to and where it is full.
 ghost use Rattle.std.specs.Prelude.{◌≡◌, ◌↔◌, ◌⊎◌, ◌+◌, ◌-◌, ◌^◌, ◌<◌, ◌≤◌, Contains, IsTrue, IsOk, IsErr, IfOk, OnErr, is_err, length, min, take, Some, false, [], ◌++◌};
 ghost use Rattle.pyd_source.specs.Faults.{Counted};
-ghost use Rattle.pyd_source.specs.Script.{begun, called, told_room};
+ghost use Rattle.pyd_source.specs.FailurePlan.{begun, called, told_room};
 
-use crate::script::Script;
+use crate::failure_plan::FailurePlan;
 use crate::{Failed, Sink};
 use pyd_value::NoMemory;
 use std::alloc::Global;
@@ -15,21 +15,21 @@ use std::marker::Model;
 pub struct MemSink {
     bytes: Vec<u8>,
     room: usize,
-    script: Script,
+    plan: FailurePlan,
 }
 
 impl Model for MemSink {
     ghost use Rattle.std.specs.Prelude.{◌+◌, ◌<◌, ◌≤◌, vec_len, vec_capacity};
-    ghost use Rattle.pyd_source.specs.Script.{Store, store_code};
+    ghost use Rattle.pyd_source.specs.FailurePlan.{Store, store_code};
 
     ghost Value = { Store };
 
     ghost coded = { store_code };
 
-    ghost view = { λ s. record { held = s.bytes.items; room = s.room; script = s.script } };
+    ghost view = { λ s. record { held = s.bytes.items; room = s.room; plan = s.plan } };
 
     ghost invariant = { λ s.
-        (vec_len s.bytes + s.room ≤ vec_capacity s.bytes) × (0 < s.script.step) };
+        (vec_len s.bytes + s.room ≤ vec_capacity s.bytes) × (0 < s.plan.step) };
 }
 
 impl MemSink {
@@ -44,12 +44,12 @@ impl MemSink {
         requires moves { 1 ≤ step }
         requires numbered { ¬ Contains fails.items (2 ^ 64 - 1) }
         ensures { IfOk result (λ sink.
-            sink ≡ record { held = []; room = room; script = begun fails.items step }) }
+            sink ≡ record { held = []; room = room; plan = begun fails.items step }) }
     {
         Ok(MemSink {
             bytes: Vec::with_capacity(alloc, room)?,
             room,
-            script: Script::new(fails, step),
+            plan: FailurePlan::new(fails, step),
         })
     }
 
@@ -68,7 +68,7 @@ impl Sink for MemSink {
 
     ghost sure = { λ _. false };
 
-    ghost faults = { λ sink. sink.script.faults };
+    ghost faults = { λ sink. sink.plan.faults };
 
     fn put(&mut self, piece: &[u8]) -> Result<usize, Failed>
         ensures within { IfOk result (λ count. count ≤ length piece.now) }
@@ -77,17 +77,17 @@ impl Sink for MemSink {
         ensures lowered { IfOk result (λ count. self.old.room ≡ self.new.room + count) }
         ensures kept { OnErr result (self.new.held ≡ self.old.held) }
         ensures same { OnErr result (self.new.room ≡ self.old.room) }
-        ensures cause { Counted self.old.script.faults self.new.script.faults (IsErr result) }
+        ensures cause { Counted self.old.plan.faults self.new.plan.faults (IsErr result) }
 
-        // It fails exactly by its room and its script, and moves as many bytes as that allows.
+        // It fails exactly by its room and its plan, and moves as many bytes as that allows.
         ensures failed { IsErr result ↔ ((self.old.room < length piece.now)
-            ⊎ Contains self.old.script.fails self.old.script.number) }
-        ensures count { IfOk result (λ count. count ≡ min self.old.script.step (length piece.now)) }
-        ensures script { self.new.script ≡ called (is_err result) self.old.script }
+            ⊎ Contains self.old.plan.fails self.old.plan.number) }
+        ensures count { IfOk result (λ count. count ≡ min self.old.plan.step (length piece.now)) }
+        ensures plan { self.new.plan ≡ called (is_err result) self.old.plan }
     {
-        let count = cmp::min(self.script.step(), piece.len());
-        let failed = piece.len() > self.room || self.script.fails_next();
-        self.script.count(failed);
+        let count = cmp::min(self.plan.step(), piece.len());
+        let failed = piece.len() > self.room || self.plan.fails_next();
+        self.plan.count(failed);
         if failed || self.bytes.extend_from_slice(&piece[..count]).is_err() {
             return Err(Failed);
         }

@@ -1,9 +1,9 @@
 //! A source in memory, which fails where it is told to.
 ghost use Rattle.std.specs.Prelude.{◌≡◌, ◌↔◌, ◌-◌, ◌^◌, ◌<◌, ◌≤◌, Contains, IsErr, IfOk, OnErr, is_err, length, min, take, drop, Some, [], ◌++◌};
 ghost use Rattle.pyd_source.specs.Faults.{Counted};
-ghost use Rattle.pyd_source.specs.Script.{begun, called};
+ghost use Rattle.pyd_source.specs.FailurePlan.{begun, called};
 
-use crate::script::Script;
+use crate::failure_plan::FailurePlan;
 use crate::{Failed, Source};
 use std::cmp;
 use std::marker::Model;
@@ -13,20 +13,20 @@ use std::marker::Model;
 pub struct MemSource {
     bytes: Vec<u8>,
     at: usize,
-    script: Script,
+    plan: FailurePlan,
 }
 
 impl Model for MemSource {
     ghost use Rattle.std.specs.Prelude.{◌<◌, ◌≤◌, drop, vec_len};
-    ghost use Rattle.pyd_source.specs.Script.{Supply, supply_code};
+    ghost use Rattle.pyd_source.specs.FailurePlan.{Supply, supply_code};
 
     ghost Value = { Supply };
 
     ghost coded = { supply_code };
 
-    ghost view = { λ s. record { left = drop s.at s.bytes.items; script = s.script } };
+    ghost view = { λ s. record { left = drop s.at s.bytes.items; plan = s.plan } };
 
-    ghost invariant = { λ s. (s.at ≤ vec_len s.bytes) × (0 < s.script.step) };
+    ghost invariant = { λ s. (s.at ≤ vec_len s.bytes) × (0 < s.plan.step) };
 }
 
 impl MemSource {
@@ -35,12 +35,12 @@ impl MemSource {
     pub fn new(bytes: Vec<u8>, fails: Vec<u64>, step: usize) -> MemSource
         requires moves { 1 ≤ step }
         requires numbered { ¬ Contains fails.items (2 ^ 64 - 1) }
-        ensures { result ≡ record { left = bytes.items; script = begun fails.items step } }
+        ensures { result ≡ record { left = bytes.items; plan = begun fails.items step } }
     {
         MemSource {
             bytes,
             at: 0,
-            script: Script::new(fails, step),
+            plan: FailurePlan::new(fails, step),
         }
     }
 }
@@ -48,7 +48,7 @@ impl MemSource {
 impl Source for MemSource {
     ghost left = { λ source. Some source.left };
 
-    ghost faults = { λ source. source.script.faults };
+    ghost faults = { λ source. source.plan.faults };
 
     fn take(&mut self, buf: &mut [u8]) -> Result<usize, Failed>
         ensures within { IfOk result (λ count. count ≤ length buf.new) }
@@ -56,20 +56,20 @@ impl Source for MemSource {
         ensures end { IfOk result (λ count.
             count ≡ 0 → 0 < length buf.new → self.old.left ≡ []) }
         ensures kept { OnErr result (self.new.left ≡ self.old.left) }
-        ensures cause { Counted self.old.script.faults self.new.script.faults (IsErr result) }
+        ensures cause { Counted self.old.plan.faults self.new.plan.faults (IsErr result) }
 
-        // It fails exactly by its script, and moves as many bytes as that, the buffer and the rest allow.
-        ensures failed { IsErr result ↔ Contains self.old.script.fails self.old.script.number }
+        // It fails exactly by its plan, and moves as many bytes as that, the buffer and the rest allow.
+        ensures failed { IsErr result ↔ Contains self.old.plan.fails self.old.plan.number }
         ensures count { IfOk result (λ count.
-            count ≡ min (min self.old.script.step (length buf.old)) (length self.old.left)) }
-        ensures script { self.new.script ≡ called (is_err result) self.old.script }
+            count ≡ min (min self.old.plan.step (length buf.old)) (length self.old.left)) }
+        ensures plan { self.new.plan ≡ called (is_err result) self.old.plan }
     {
-        let failed = self.script.fails_next();
-        self.script.count(failed);
+        let failed = self.plan.fails_next();
+        self.plan.count(failed);
         if failed {
             return Err(Failed);
         }
-        let count = copy_front(&self.bytes[self.at..], buf, self.script.step());
+        let count = copy_front(&self.bytes[self.at..], buf, self.plan.step());
         self.at += count;
         Ok(count)
     }

@@ -1,5 +1,5 @@
 //! A sink that drops what it takes.
-ghost use Rattle.std.specs.Prelude.{true, None};
+ghost use Rattle.std.specs.Prelude.{◌≡◌, length, true, None, Ok};
 
 use crate::{Failed, Sink};
 
@@ -22,7 +22,9 @@ impl Sink for NullSink {
 
     ghost faults = { λ _. 0 };
 
-    fn put(&mut self, piece: &[u8]) -> Result<usize, Failed> {
+    fn put(&mut self, piece: &[u8]) -> Result<usize, Failed>
+        ensures whole { result ≡ Ok (length piece.now) }
+    {
         Ok(piece.len())
     }
 }

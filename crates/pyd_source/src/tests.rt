@@ -1,5 +1,7 @@
 //! Sources and sinks that fail at each call in turn.
-ghost use Rattle.std.specs.Prelude.{◌-◌, ◌^◌, Contains, IfOk, IsOk, IsErrOf, None, false};
+ghost use Rattle.std.specs.Prelude.{◌≡◌, ◌-◌, ◌^◌, [], ◌∷◌, ◌++◌, Contains, IfOk, OnOk, OnErr, IsOk, IsErr, IsErrOf, None, false};
+ghost use Rattle.pyd_source.specs.Content.{Added, AddedPrefix};
+ghost use Rattle.pyd_source.specs.Faults.{Counted};
 
 use super::*;
 use std::alloc::{AllocError, Global};
@@ -158,6 +160,28 @@ fn read_still(alloc: Global) -> Result<Vec<u8>, ReadStop>
     read_all(alloc, &mut Still, 5)
 }
 
+// The caller of CALLING.md: a line, and then a line feed.
+fn put_line<K: Sink>(sink: &mut K, line: &[u8]) -> Result<(), Failed>
+    ensures ok { OnOk result (Added (K.held sink.old) (line.now ++ 10 ∷ []) (K.held sink.new)) }
+    ensures err { OnErr result
+        (AddedPrefix (K.held sink.old) (line.now ++ 10 ∷ []) (K.held sink.new)) }
+    ensures cause { Counted (K.faults sink.old) (K.faults sink.new) (IsErr result) }
+{
+    put_all(sink, line).or(Err(Failed))?;
+    put_all(sink, b"\n").or(Err(Failed))
+}
+
+#[test]
+fn a_line_is_put_up_to_the_call_that_fails(rt: HostRuntime) -> Result<(), Fail> {
+    let alloc = rt.alloc();
+    for (call, held) in [(0, ""), (1, "print"), (2, "print\n")] {
+        let mut sink = MemSink::new(alloc, 6, fails_at(alloc, call)?, 100)?;
+        assert_eq!(rt; put_line(&mut sink, TEXT).is_ok(), call == 2, "call {call}");
+        assert_eq!(rt; sink.held(), held.as_bytes(), "call {call}");
+    }
+    Ok(())
+}
+
 // A reader that fails.
 #[derive(Drop)]
 struct Broken;
@@ -189,6 +213,7 @@ fn the_adapters_pass_bytes_and_errors_on(rt: HostRuntime) -> Result<(), Fail> {
 #[test]
 fn an_object_without_faults_gives_none(rt: HostRuntime) -> Result<(), Fail> {
     assert_eq!(rt; put_to_nowhere(TEXT), Ok(()));
+    assert_eq!(rt; NullSink::new().put(TEXT), Ok(5));
     assert_eq!(rt; put_still(TEXT), Ok(()));
     assert_eq!(rt; read_still(rt.alloc())?.len(), 0);
     Ok(())

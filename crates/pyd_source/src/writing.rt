@@ -1,6 +1,6 @@
 //! All of some bytes into a sink.
 ghost use Rattle.std.specs.Prelude.{◌≡◌, ◌<◌, length, take, IsTrue, IsOk, IsErr, IfErr, OnOk, OnErr};
-ghost use Rattle.pyd_source.specs.Content.{Added, Lowered, Exceeds};
+ghost use Rattle.pyd_source.specs.Content.{Added, AddedPrefix, Lowered, Exceeds};
 ghost use Rattle.pyd_source.specs.Faults.{Counted};
 
 use crate::Sink;
@@ -32,6 +32,7 @@ pub fn put_all<K: Sink>(sink: &mut K, bytes: &[u8]) -> Result<(), Short>
     ensures within { IfErr result (λ short. short.gone < length bytes.now) }
     ensures gone { IfErr result (λ short.
         Added (K.held sink.old) (take short.gone bytes.now) (K.held sink.new)) }
+    ensures err { OnErr result (AddedPrefix (K.held sink.old) bytes.now (K.held sink.new)) }
     ensures full { OnErr result (Exceeds (length bytes.now) (K.room sink.old)) }
     ensures cause { Counted (K.faults sink.old) (K.faults sink.new) (IsErr result) }
 

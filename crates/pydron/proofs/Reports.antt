@@ -1,19 +1,9 @@
--- What stands on a sink behind a call that failed, and the words of a run.
+-- The words of a run.
 use Rattle.std.proofs.Common.{◌≡◌, ℕ, List, [], ◌∷◌, take, length, get_or, refl, ap, sym, ◌∙◌, arith, Option, Result, Ok, Err, IfErr, OnErr, codes, eqb, map, String, string_bytes, IsTrue, ◌↔◌}
 use Rattle.std.specs.declared.alloc.Global.{Global}
 use Rattle.std.specs.Cmp.Lexicographic.{pointwise}
 use Rattle.std.proofs.lemmas.Slice.Eq.{slice_eq-Decides}
 use Rattle.std.proofs.lemmas.Bool.Decides.{Decides-eqb}
-use Rattle.pyd_source.specs.Content.{Added}
-use Rattle.pyd_source.specs.declared.writing.Short.{Short}
-use Rattle.pyd_core.specs.Settling.{AddedPrefix}
-use Rattle.pyd_core.proofs.Putting.{prefix_take}
-
--- a call that fell short put a part
-pub short_prefix : {T : Type 0} (r : Result T Short) (before after : Option (List ℕ)) (bytes : List ℕ)
-    → IfErr r (λ short. Added before (take short.gone bytes) after) → OnErr r (AddedPrefix before bytes after)
-short_prefix (Ok x) before after bytes gone = tt
-short_prefix (Err short) before after bytes gone = prefix_take before after bytes short.gone gone
 
 -- one word is `run` where its bytes are
 pub one_word : (words : List (String Global)) (w : String Global) → length words ≡ 1 → w ≡ get_or words 0 w

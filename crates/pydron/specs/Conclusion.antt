@@ -5,11 +5,10 @@ use Rattle.pyd_value.specs.declared.fault.Limit.{Limit}
 use Rattle.pyd_value.specs.declared.fault.Limit.TheVariants as limit
 use Rattle.pyd_value.specs.declared.fault.End.{End}
 use Rattle.pyd_value.specs.declared.fault.End.TheVariants as ending
-use Rattle.pyd_source.specs.Content.{Added, Emptied, TookExactly}
+use Rattle.pyd_source.specs.Content.{Added, AddedPrefix, Emptied, TookExactly}
 use Rattle.pyd_source.specs.Faults.{Rose}
 use Rattle.pyd_tree.specs.declared.file.File.{File}
 use Rattle.pyd_meaning.specs.Module.{mean, end_of, bytes_of}
-use Rattle.pyd_core.specs.Settling.{AddedPrefix}
 use Rattle.pydron.specs.declared.status.Status.{Status}
 use Rattle.pydron.specs.declared.status.Status.TheVariants as status
 use Rattle.pydron.specs.declared.conclusion.Conclusion.{Conclusion}

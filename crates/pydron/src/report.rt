@@ -1,8 +1,7 @@
 //! The error line.
 ghost use Rattle.std.specs.Prelude.{◌≡◌, IsErr, OnOk, OnErr};
-ghost use Rattle.pyd_source.specs.Content.{Added};
+ghost use Rattle.pyd_source.specs.Content.{Added, AddedPrefix};
 ghost use Rattle.pyd_source.specs.Faults.{Counted};
-ghost use Rattle.pyd_core.specs.Settling.{AddedPrefix};
 ghost use Rattle.pydron.specs.Conclusion.{error_of, in_line, limit_text};
 
 use crate::conclusion::Conclusion;
@@ -19,12 +18,12 @@ pub(crate) fn put_error<E: Sink>(err: &mut E, conclusion: Conclusion) -> Result<
     match conclusion {
         Conclusion::Done => Ok(()),
         Conclusion::Limit(limit, line) => put_in_line(err, limit_name(limit), line),
-        Conclusion::Words => put(err, b"WORDS Line\n"),
-        Conclusion::TooLong => put(err, b"REFUSED TooLong\n"),
+        Conclusion::Words => put_all(err, b"WORDS Line\n"),
+        Conclusion::TooLong => put_all(err, b"REFUSED TooLong\n"),
         Conclusion::NotYet(line) => put_in_line(err, b"REFUSED NotYet", line),
-        Conclusion::ReadFault => put(err, b"FAULT read\n"),
-        Conclusion::SinkFault => put(err, b"FAULT sink\n"),
-        Conclusion::NoMemory => put(err, b"FAULT memory\n"),
+        Conclusion::ReadFault => put_all(err, b"FAULT read\n"),
+        Conclusion::SinkFault => put_all(err, b"FAULT sink\n"),
+        Conclusion::NoMemory => put_all(err, b"FAULT memory\n"),
     }
 }
 
@@ -47,17 +46,8 @@ fn put_in_line<E: Sink>(err: &mut E, text: &[u8], line: u32) -> Result<(), Short
     ensures cause { Counted (E.faults err.old) (E.faults err.new) (IsErr result) }
 {
     let mut buffer = Buffer::new();
-    put(err, text)?;
-    put(err, b": line ")?;
-    put(err, buffer.format(line).as_bytes())?;
-    put(err, b"\n")
-}
-
-/// Puts bytes, of which some may have been put where it fails.
-fn put<E: Sink>(err: &mut E, bytes: &[u8]) -> Result<(), Short>
-    ensures ok { OnOk result (Added (E.held err.old) bytes.now (E.held err.new)) }
-    ensures err { OnErr result (AddedPrefix (E.held err.old) bytes.now (E.held err.new)) }
-    ensures cause { Counted (E.faults err.old) (E.faults err.new) (IsErr result) }
-{
-    put_all(err, bytes)
+    put_all(err, text)?;
+    put_all(err, b": line ")?;
+    put_all(err, buffer.format(line).as_bytes())?;
+    put_all(err, b"\n")
 }

@@ -8,11 +8,11 @@ unfolding mean run_of
 returns-in_err-end-clause-err g c =
     on_err c.from_residual.result (rw c.as_slice.ensures at c.in_err-end.ensures.err)
 
-pub returns-in_err-put_out-clause-err : goal.returns-in_err-put_out-clause-err
+pub returns-in_err-put_all-clause-err : goal.returns-in_err-put_all-clause-err
 unfolding mean run_of
-returns-in_err-put_out-clause-err g c =
-    on_err c.from_residual-in_err-put_out.result
-    (gathered_prefix _ _ _ c.gather.new.waiting.items _ (rw c.as_slice.ensures at c.in_ok-end.ensures.ok) (rw c.deref.ensures.value at c.in_err-put_out.ensures.err))
+returns-in_err-put_all-clause-err g c =
+    on_err c.from_residual-in_err-put_all.result
+    (gathered_prefix _ _ _ c.gather.new.waiting.items _ (rw c.as_slice.ensures at c.in_ok-end.ensures.ok) (rw c.deref.ensures.value at c.in_err-put_all.ensures.err))
 
 pub returns-clause-end : goal.returns-clause-end
 unfolding mean run_of
@@ -21,4 +21,4 @@ returns-clause-end g c = rw c.as_slice.ensures at c.in_ok-end.ensures.end
 pub returns-clause-ok : goal.returns-clause-ok
 unfolding mean run_of
 returns-clause-ok g c =
-    gathered_put _ _ _ c.gather.new.waiting.items _ (rw c.as_slice.ensures at c.in_ok-end.ensures.ok) (rw c.deref.ensures.value at c.in_ok-put_out.ensures.ok)
+    gathered_put _ _ _ c.gather.new.waiting.items _ (rw c.as_slice.ensures at c.in_ok-end.ensures.ok) (rw c.deref.ensures.value at c.in_ok-put_all.ensures.ok)

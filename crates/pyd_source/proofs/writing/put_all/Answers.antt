@@ -2,6 +2,7 @@
 use Rattle.std.proofs.Common.{arith, subst, ◌∙◌}
 use Rattle.pyd_source.specs.Content.{Added}
 use Rattle.pyd_source.proofs.Moves.{added_more, lowered_more, gone_within, gone_more}
+use Rattle.pyd_source.proofs.Prefixes.{prefix_take}
 use Rattle.pyd_source.proofs.writing.put_all.Goals as goal
 
 pub loop-gone-preserved : goal.loop-gone-preserved
@@ -19,3 +20,8 @@ loop-gone-preserved g c =
       counted = omega (arith, so_far.counted, call.cause.never_falls);
       same = call.same ∙ so_far.same;
     }
+
+pub returns-in-Err-clause-err : goal.returns-in-Err-clause-err
+returns-in-Err-clause-err g c =
+    let so_far = c.loop-gone.invariant.added in
+    prefix_take _ _ c.args.bytes.now c.loop-gone.gone (rw c.in-Err.ensures.kept so_far)

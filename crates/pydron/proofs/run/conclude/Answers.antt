@@ -1,5 +1,5 @@
 use Rattle.std.proofs.Common.{ap, refl, inl, IsTrue, false, Err}
-use Rattle.pyd_core.proofs.Putting.{added_none}
+use Rattle.pyd_source.proofs.Prefixes.{added_none}
 use Rattle.pydron.proofs.Inputs.{some_input, input_read, input_long}
 use Rattle.pydron.proofs.run.conclude.Goals as goal
 

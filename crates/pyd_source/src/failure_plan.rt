@@ -1,34 +1,34 @@
 //! When the calls of an object in memory fail.
 ghost use Rattle.std.specs.Prelude.{◌≡◌, ◌↔◌, ◌-◌, ◌^◌, ◌≤◌, Contains, IsTrue};
 ghost use Rattle.pyd_source.specs.Faults.{Counted};
-ghost use Rattle.pyd_source.specs.Script.{begun, called};
+ghost use Rattle.pyd_source.specs.FailurePlan.{begun, called};
 
 use std::marker::Model;
 
 /// The calls that fail, by their numbers from 0 on, and the most bytes that one moves.
 #[derive(Debug, Drop)]
-pub(crate) struct Script {
+pub(crate) struct FailurePlan {
     fails: Vec<u64>,
     step: usize,
     number: u64,
     faults: u64,
 }
 
-impl Model for Script {
-    ghost use Rattle.pyd_source.specs.Script.{Script as Calls, script_code};
+impl Model for FailurePlan {
+    ghost use Rattle.pyd_source.specs.FailurePlan.{FailurePlan as Calls, plan_code};
 
     ghost Value = { Calls };
 
-    ghost coded = { script_code };
+    ghost coded = { plan_code };
 
     ghost view = { λ s. record { fails = s.fails.items; step = s.step; number = s.number; faults = s.faults } };
 }
 
-impl Script {
-    pub(crate) fn new(fails: Vec<u64>, step: usize) -> Script
+impl FailurePlan {
+    pub(crate) fn new(fails: Vec<u64>, step: usize) -> FailurePlan
         ensures { result ≡ begun fails.items step }
     {
-        Script {
+        FailurePlan {
             fails,
             step,
             number: 0,
