@@ -49,6 +49,6 @@ pub record FirstHopeless (g : List Production) (ss : List Symbol) (ts : List ℕ
   pub hopeless : Begins g ss (take (i + 1) ts) → ⊥
 
 -- the terminals begin some list that the symbols stand for, and are none
-pub record BreaksOff (g : List Production) (ss : List Symbol) (ts : List ℕ) : Type 0 where
+pub record Unfinished (g : List Production) (ss : List Symbol) (ts : List ℕ) : Type 0 where
   pub begins : Begins g ss ts
   pub none : Stands g ss ts → ⊥

@@ -3,3 +3,6 @@ pub mod Rules
 pub mod Grammar
 pub mod Derivation
 pub mod Sets
+pub mod Table
+pub mod Script
+pub mod Laws
