@@ -10,7 +10,7 @@ import re
 
 CRATE = "crates/pyd_syntax/"
 OTHER = 0
-RULE = 128
+FIRST_RULE = 128
 
 
 def read(path):
@@ -33,7 +33,7 @@ for of, to in re.findall(r"^    \((\w+) ⟶ (.*)\) ∷$", read("specs/Grammar.an
 nullable = set()
 first = {rule: set() for rule in rules.values()}
 follow = {rule: set() for rule in rules.values()}
-follow[0] = {OTHER}
+follow[rules["file"]] = {OTHER}
 witness = []
 
 
@@ -111,8 +111,11 @@ def listed(values):
 
 
 width = max(len(to) for _, to in grammar)
-codes = [[n + RULE if kind == "R" else n for kind, n in to] for _, to in grammar]
+codes = [[n + FIRST_RULE if kind == "R" else n for kind, n in to] for _, to in grammar]
 productions = f"""//! The productions as codes. Written by tools/grammar_tables.py from specs/Grammar.antt.
+
+/// The rule of a whole source.
+pub const START: u8 = {rules["file"]};
 
 /// How many productions there are.
 pub const PRODUCTIONS: u8 = {len(grammar)};
@@ -120,7 +123,11 @@ pub const PRODUCTIONS: u8 = {len(grammar)};
 /// The greatest number of symbols of a production.
 pub const WIDTH: u8 = {width};
 
-/// The codes of each production's symbols: a terminal's is its number, a rule's is 128 more than its number.
+/// The code of the first rule.
+pub const FIRST_RULE: u8 = {FIRST_RULE};
+
+/// The codes of each production's symbols: a terminal's is its number, and a rule's its number behind
+/// `FIRST_RULE`.
 pub const SYMBOLS: [[u8; {width}]; {len(grammar)}] = [
 {chr(10).join("    " + array(row + [0] * (width - len(row))) + "," for row in codes)}
 ];
@@ -128,13 +135,14 @@ pub const SYMBOLS: [[u8; {width}]; {len(grammar)}] = [
 /// How many symbols each production has.
 pub const LENGTHS: [u8; {len(grammar)}] = {array(len(row) for row in codes)};
 """
-entries = f"""//! Which production goes on for a rule before each terminal. Written by tools/grammar_tables.py from
-//! specs/Grammar.antt.
+entries = f"""//! Which production goes on for a rule before each terminal. Written by
+//! tools/grammar_tables.py from specs/Grammar.antt.
 
 /// How many rules there are.
 pub const RULES: u8 = {len(rules)};
 
-/// For each rule, the production before each terminal; as many as there are productions where none goes on.
+/// For each rule, the production before each terminal; as many as there are productions where none
+/// goes on.
 pub const TABLE: [[u8; {count}]; {len(rules)}] = [
 {chr(10).join("    " + array(row) + "," for row in table)}
 ];

@@ -1,5 +1,5 @@
 -- The test of a table against its grammar, which the checker computes.
-use Rattle.std.proofs.Common.{ℕ, ◌+◌, suc, zero, List, [], ◌∷◌, ◌++◌, get_or, length, Bool, true, false, cond, ◌&&◌, ◌||◌, eqb, ltb, leb}
+use Rattle.std.proofs.Common.{ℕ, ◌+◌, suc, zero, List, [], ◌∷◌, ◌++◌, get_or, length, Bool, true, false, cond, refl, ◌≡◌, ◌&&◌, ◌||◌, eqb, ltb, leb}
 use Rattle.pyd_syntax.specs.declared.symbol.Symbol.{Symbol}
 use Rattle.pyd_syntax.specs.declared.symbol.Symbol.TheVariants.{Terminal, Rule}
 use Rattle.pyd_syntax.specs.Grammar.{Production}
@@ -63,17 +63,19 @@ form_ok g p f =
     && (lead_ok g (get_or g.lead f.of 0) f.to
     && in_range g f.to))))
 
-abbrev pub forms_ok : Table → ℕ → List Production → Bool
-forms_ok g p [] = true
-forms_ok g p (f ∷ fs) = form_ok g p f && forms_ok g (suc p) fs
+-- the numbers of the productions that the table or the sets don't fit
+abbrev pub unfit : Table → ℕ → List Production → List ℕ
+unfit g p [] = []
+unfit g p (f ∷ fs) = cond (form_ok g p f) (unfit g (suc p) fs) (p ∷ unfit g (suc p) fs)
 
 -- an entry is blank, or a production of its rule
 abbrev pub entry_ok : Table → ℕ → ℕ → Bool
 entry_ok g n p = leb (length g.productions) p || eqb (of_production g.productions p) n
 
-abbrev pub rows_ok : Table → ℕ → List (List ℕ) → Bool
-rows_ok g n [] = true
-rows_ok g n (row ∷ rows) = every (entry_ok g n) row && rows_ok g (suc n) rows
+-- the rules whose rows have another rule's production
+abbrev pub wrong_rows : Table → ℕ → List (List ℕ) → List ℕ
+wrong_rows g n [] = []
+wrong_rows g n (row ∷ rows) = cond (every (entry_ok g n) row) (wrong_rows g (suc n) rows) (n ∷ wrong_rows g (suc n) rows)
 
 -- each symbol is a token, or a rule among these
 abbrev pub made_of : List ℕ → List Symbol → Bool
@@ -96,9 +98,14 @@ witness_ok g rules (p ∷ ps) =
 abbrev pub at_most : ℕ → ℕ → Bool
 at_most b x = leb x b
 
-abbrev pub grammar_ok : Table → Bool
-grammar_ok g =
-    forms_ok g 0 g.productions
-    && (rows_ok g 0 g.entries
-    && (witness_ok g [] g.witness
-    && every (at_most g.bound) g.lead))
+-- What the checker computes of a table. Where a list isn't empty, it says which productions or rules don't fit.
+pub record Fits (g : Table) : Type 0 where
+  pub productions : unfit g 0 g.productions ≡ []
+  pub rows : wrong_rows g 0 g.entries ≡ []
+  pub made : witness_ok g [] g.witness ≡ true
+  pub bounded : every (at_most g.bound) g.lead ≡ true
+
+-- a list of what doesn't fit is empty only where all does
+pub fit : (b : Bool) (p : ℕ) (ps : List ℕ) → cond b ps (p ∷ ps) ≡ [] → (b ≡ true) × (ps ≡ [])
+fit true p ps h = (refl, h)
+fit false p ps h = cc

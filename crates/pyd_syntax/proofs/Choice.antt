@@ -1,6 +1,7 @@
 -- The table's choice is the only one.
 use Rattle.std.proofs.Common.{◌≡◌, ℕ, ◌<◌, List, [], ◌∷◌, ◌++◌, length, Bool, true, false, cond, ◌&&◌, ◌||◌, eqb, refl, sym, ap, subst, ◌∙◌, inl, inr, ◌⊎◌}
 use Rattle.std.proofs.lemmas.Bool.{and_parts, and_from, or_cases, or_left, or_right, eq-eqb}
+use Rattle.pyd_syntax.specs.declared.terminal.TheConstants.{OTHER}
 use Rattle.pyd_syntax.specs.declared.symbol.Symbol.{Symbol}
 use Rattle.pyd_syntax.specs.declared.symbol.Symbol.TheVariants.{Terminal, Rule}
 use Rattle.pyd_syntax.specs.declared.step.Step.{Step}
@@ -23,7 +24,7 @@ has_right (x ∷ xs) ys t h = or_right (eqb x t) (has (xs ++ ys) t) (has_right x
 
 -- the token may come next, where these symbols are all that is still to come
 abbrev pub may_come : Table → List Symbol → ℕ → Bool
-may_come g [] t = eqb t 0
+may_come g [] t = eqb t OTHER
 may_come g (Terminal k ∷ ss) t = eqb k t
 may_come g (Rule n ∷ ss) t = has (first_of_rule g n) t || (is_nullable g n && may_come g ss t)
 

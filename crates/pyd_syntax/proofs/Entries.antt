@@ -12,17 +12,17 @@ use Rattle.pyd_syntax.specs.Grammar.{grammar, start}
 use Rattle.pyd_syntax.specs.Derivation.{symbols}
 use Rattle.pyd_syntax.specs.Sets.{nullable, first, follow, lead, witness}
 use Rattle.pyd_syntax.specs.Table.{table, entries, entry, ahead, in_range, Turn, Stuck}
-use Rattle.pyd_syntax.proofs.Check.{grammar_ok}
+use Rattle.pyd_syntax.proofs.Check.{Fits}
 use Rattle.pyd_syntax.proofs.Valid.{Valid, valid_from}
 use Rattle.pyd_syntax.proofs.Turns.{Reads, begun}
 use Rattle.pyd_syntax.proofs.Codes.{below}
 
-pub table_ok : grammar_ok table ≡ true
+pub table_fits : Fits table
 unfolding grammar entries nullable first follow lead witness
-table_ok = refl
+table_fits = record { productions = refl; rows = refl; made = refl; bounded = refl }
 
 pub table_valid : Valid table
-table_valid = valid_from table table_ok
+table_valid = valid_from table table_fits
 
 abbrev all_wide : ℕ → List (List ℕ) → Bool
 all_wide w [] = true

@@ -2,6 +2,7 @@
 use Rattle.std.proofs.Common.{◌≡◌, ℕ, ◌+◌, ◌*◌, ◌-◌, ◌<◌, ◌≤◌, suc, List, [], ◌∷◌, ◌++◌, get_or, take, drop, length, true, refl, sym, ap, subst, ◌∙◌, inl, inr, arith, ◌⊎◌, append_assoc, append-nil, length-append, take_all}
 use Rattle.std.proofs.lemmas.Bool.{and_parts, leb-true, eqb-true}
 use Rattle.std.proofs.lemmas.List.{take_more, drop_more, drop_all}
+use Rattle.pyd_syntax.specs.declared.terminal.TheConstants.{OTHER}
 use Rattle.pyd_syntax.specs.declared.symbol.Symbol.{Symbol}
 use Rattle.pyd_syntax.specs.declared.symbol.Symbol.TheVariants.{Terminal, Rule}
 use Rattle.pyd_syntax.specs.declared.step.Step.{Step}
@@ -84,11 +85,11 @@ turned g v st ts (Terminal k) ss steps i step us j r t =
 turned g v st ts (Rule n) ss steps i step us j r t =
     rw (t.1, t.2, t.3) (written g v st ts n ss steps i (entry g n (ahead (drop i ts))) r refl t.0)
 
-pub begun : (g : Table) (ts : List ℕ) → (n : ℕ) → in_range g (Rule n ∷ []) ≡ true → has (follow_of g n) 0 ≡ true → Reads g (Rule n ∷ []) ts (Rule n ∷ []) [] 0
+pub begun : (g : Table) (ts : List ℕ) → (n : ℕ) → in_range g (Rule n ∷ []) ≡ true → has (follow_of g n) OTHER ≡ true → Reads g (Rule n ∷ []) ts (Rule n ∷ []) [] 0
 begun g ts n h f = record {
   within = omega arith;
   ranged = h;
-  follows = (λ t c. rw (eqb-true t 0 c) f, tt);
+  follows = (λ t c. rw (eqb-true t OTHER c) f, tt);
   forward = λ more rest d. d;
   back = λ rest a s. s;
 }

@@ -5,7 +5,7 @@ use Rattle.pyd_syntax.specs.declared.symbol.Symbol.{Symbol}
 use Rattle.pyd_syntax.specs.Grammar.{Production}
 use Rattle.pyd_syntax.specs.Derivation.{none, of_production, symbols}
 use Rattle.pyd_syntax.specs.Table.{Table, entry, in_range}
-use Rattle.pyd_syntax.proofs.Check.{has, every, is_nullable, first_of_rule, follow_of, nulls, starts, follows_ok, lead_ok, is_chosen, form_ok, forms_ok, entry_ok, rows_ok, witness_ok, at_most, grammar_ok}
+use Rattle.pyd_syntax.proofs.Check.{has, every, is_nullable, first_of_rule, follow_of, nulls, starts, follows_ok, lead_ok, is_chosen, form_ok, unfit, entry_ok, wrong_rows, witness_ok, at_most, Fits, fit}
 
 pub every_at : (f : ℕ → Bool) (xs : List ℕ) (t : ℕ) → every f xs ≡ true → has xs t ≡ true → f t ≡ true
 every_at f [] t h m = cc
@@ -19,12 +19,12 @@ every_get f [] i d h m = m
 every_get f (x ∷ xs) zero d h m = (and_parts _ _ h).0
 every_get f (x ∷ xs) (suc i) d h m = every_get f xs i d (and_parts _ _ h).1 m
 
-form_at : (g : Table) (p : ℕ) (fs : List Production) (i : ℕ) → forms_ok g p fs ≡ true → i < length fs → form_ok g (p + i) (get_or fs i none) ≡ true
+form_at : (g : Table) (p : ℕ) (fs : List Production) (i : ℕ) → unfit g p fs ≡ [] → i < length fs → form_ok g (p + i) (get_or fs i none) ≡ true
 form_at g p [] i h l = absurd (omega arith)
-form_at g p (f ∷ fs) zero h l = let e : p ≡ p + 0 = omega arith in subst (λ (v : ℕ). form_ok g v f ≡ true) e (and_parts _ _ h).0
+form_at g p (f ∷ fs) zero h l = let e : p ≡ p + 0 = omega arith in subst (λ (v : ℕ). form_ok g v f ≡ true) e (fit (form_ok g p f) p (unfit g (suc p) fs) h).0
 form_at g p (f ∷ fs) (suc i) h l =
     let e : suc p + i ≡ p + suc i = omega arith in
-    subst (λ (v : ℕ). form_ok g v (get_or fs i none) ≡ true) e (form_at g (suc p) fs i (and_parts _ _ h).1 (omega arith))
+    subst (λ (v : ℕ). form_ok g v (get_or fs i none) ≡ true) e (form_at g (suc p) fs i (fit (form_ok g p f) p (unfit g (suc p) fs) h).1 (omega arith))
 
 -- what the test says of one production
 pub record Fine (g : Table) (n p : ℕ) (to : List Symbol) : Type 0 where
@@ -57,12 +57,14 @@ fine_from g p f h =
       ranged = e.1;
     }
 
-row_at : (g : Table) (n : ℕ) (rows : List (List ℕ)) (i : ℕ) → rows_ok g n rows ≡ true → every (entry_ok g (n + i)) (get_or rows i []) ≡ true
+row_at : (g : Table) (n : ℕ) (rows : List (List ℕ)) (i : ℕ) → wrong_rows g n rows ≡ [] → every (entry_ok g (n + i)) (get_or rows i []) ≡ true
 row_at g n [] i h = refl
-row_at g n (row ∷ rows) zero h = let e : n ≡ n + 0 = omega arith in subst (λ (v : ℕ). every (entry_ok g v) row ≡ true) e (and_parts _ _ h).0
+row_at g n (row ∷ rows) zero h =
+    let e : n ≡ n + 0 = omega arith in
+    subst (λ (v : ℕ). every (entry_ok g v) row ≡ true) e (fit (every (entry_ok g n) row) n (wrong_rows g (suc n) rows) h).0
 row_at g n (row ∷ rows) (suc i) h =
     let e : suc n + i ≡ n + suc i = omega arith in
-    subst (λ (v : ℕ). every (entry_ok g v) (get_or rows i []) ≡ true) e (row_at g (suc n) rows i (and_parts _ _ h).1)
+    subst (λ (v : ℕ). every (entry_ok g v) (get_or rows i []) ≡ true) e (row_at g (suc n) rows i (fit (every (entry_ok g n) row) n (wrong_rows g (suc n) rows) h).1)
 
 -- what the parser stands on
 pub record Valid (g : Table) : Type 0 where
@@ -80,14 +82,13 @@ right_from g n p h l = elim (or_cases _ _ h) [
   | inr e ↦ eqb-true _ _ e
 ]
 
-pub valid_from : (g : Table) → grammar_ok g ≡ true → Valid g
-valid_from g h =
-    let a = and_parts _ _ h in
-    let b = and_parts _ _ a.1 in
-    let c = and_parts _ _ b.1 in
-    record {
-      fine = λ p l. fine_from g p (get_or g.productions p none) (subst (λ (v : ℕ). form_ok g v (get_or g.productions p none) ≡ true) (zero-add p) (form_at g 0 g.productions p a.0 l));
-      right = λ n t l. right_from g n (entry g n t) (every_get (entry_ok g n) (get_or g.entries n []) t (length g.productions) (subst (λ (v : ℕ). every (entry_ok g v) (get_or g.entries n []) ≡ true) (zero-add n) (row_at g 0 g.entries n b.0)) (blank_ok g n)) l;
-      made = c.0;
-      bounded = λ n. leb-true _ _ (every_get (at_most g.bound) g.lead n 0 c.1 (le-leb 0 g.bound (omega arith)));
-    }
+pub valid_from : (g : Table) → Fits g → Valid g
+valid_from g f = record {
+  fine = λ p l. fine_from g p (get_or g.productions p none)
+      (subst (λ (v : ℕ). form_ok g v (get_or g.productions p none) ≡ true) (zero-add p) (form_at g 0 g.productions p f.productions l));
+  right = λ n t l. right_from g n (entry g n t)
+      (every_get (entry_ok g n) (get_or g.entries n []) t (length g.productions)
+      (subst (λ (v : ℕ). every (entry_ok g v) (get_or g.entries n []) ≡ true) (zero-add n) (row_at g 0 g.entries n f.rows)) (blank_ok g n)) l;
+  made = f.made;
+  bounded = λ n. leb-true _ _ (every_get (at_most g.bound) g.lead n 0 f.bounded (le-leb 0 g.bound (omega arith)));
+}

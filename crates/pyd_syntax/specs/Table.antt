@@ -4,6 +4,8 @@ use Rattle.pyd_syntax.specs.declared.symbol.Symbol.{Symbol}
 use Rattle.pyd_syntax.specs.declared.symbol.Symbol.TheVariants.{Terminal, Rule}
 use Rattle.pyd_syntax.specs.declared.step.Step.{Step}
 use Rattle.pyd_syntax.specs.declared.step.Step.TheVariants.{Shift, Expand}
+use Rattle.pyd_syntax.specs.declared.terminal.TheConstants.{OTHER}
+use Rattle.pyd_syntax.specs.declared.productions.TheConstants.{FIRST_RULE}
 use Rattle.pyd_syntax.specs.declared.table.TheConstants.{TABLE}
 use Rattle.pyd_syntax.specs.Grammar.{Production, grammar}
 use Rattle.pyd_syntax.specs.Derivation.{symbols}
@@ -38,7 +40,7 @@ table = record {
 
 -- the next terminal of a list; at its end none that a production has
 abbrev pub ahead : List ℕ → ℕ
-ahead [] = 0
+ahead [] = OTHER
 ahead (t ∷ ts) = t
 
 -- the production for a rule before a terminal; as many as there are productions where none goes on
@@ -53,7 +55,7 @@ in_range g (Rule n ∷ ss) = ltb n (length g.entries) && in_range g ss
 
 -- the symbol of a code
 abbrev pub symbol_of : ℕ → Symbol
-symbol_of code = cond (ltb code 128) (Terminal code) (Rule (code - 128))
+symbol_of code = cond (ltb code FIRST_RULE) (Terminal code) (Rule (code - FIRST_RULE))
 
 -- The symbol on top of the stack is a terminal that comes next, and is shifted; or a rule, and the table's production
 -- stands for it.

@@ -6,7 +6,7 @@ ghost use Rattle.pyd_syntax.specs.Grammar.{grammar};
 ghost use Rattle.pyd_syntax.specs.Derivation.{symbols};
 ghost use Rattle.pyd_syntax.specs.Table.{symbol_of};
 
-use crate::productions::{LENGTHS, PRODUCTIONS, SYMBOLS, WIDTH};
+use crate::productions::{FIRST_RULE, LENGTHS, PRODUCTIONS, SYMBOLS, WIDTH};
 use crate::symbol::Symbol;
 
 /// How many symbols a production has.
@@ -42,9 +42,9 @@ fn code(production: u8, i: u8) -> u8
 fn symbol_of(code: u8) -> Symbol
     ensures { result ≡ symbol_of code }
 {
-    if code < 128 {
+    if code < FIRST_RULE {
         Symbol::Terminal(code)
     } else {
-        Symbol::Rule(code - 128)
+        Symbol::Rule(code - FIRST_RULE)
     }
 }

@@ -8,7 +8,7 @@ ghost use Rattle.pyd_syntax.specs.Script.{IsDerivation, IsScript, IsFirstHopeles
 ghost use Rattle.pyd_syntax.specs.Table.{table, entry, ahead, in_range, Turned};
 
 use crate::code::{length, symbol};
-use crate::productions::PRODUCTIONS;
+use crate::productions::{PRODUCTIONS, START};
 use crate::step::Step;
 use crate::stop::Stop;
 use crate::symbol::Symbol;
@@ -18,8 +18,8 @@ use pyd_lex::Token;
 use pyd_value::NoMemory;
 use std::alloc::Global;
 
-/// The steps that derive these tokens from the start, or why there are none. Tokens are handed over whole, with the end of
-/// the source as the last (docs/FORMATS.md, "Grammar").
+/// The steps that derive these tokens, from the left, or why there are none. The tokens are all of a
+/// source, the last of them its end; the grammar is the one of docs/FORMATS.md, "Grammar".
 pub fn derive(alloc: Global, tokens: &[Token]) -> Result<Vec<Step>, Stop>
     ensures ok { IfOk result (λ steps. IsDerivation steps.items tokens.now) }
     ensures none { IfErr result (λ stop. IfNone stop (IsScript tokens.now → ⊥)) }
@@ -29,7 +29,7 @@ pub fn derive(alloc: Global, tokens: &[Token]) -> Result<Vec<Step>, Stop>
 {
     let mut steps = Vec::new(alloc);
     let mut stack = Vec::new(alloc);
-    match stack.push(Symbol::Rule(0)) {
+    match stack.push(Symbol::Rule(START)) {
         Ok(()) => {}
         Err(_) => return Err(Stop::NoMemory),
     }
@@ -47,8 +47,8 @@ pub fn derive(alloc: Global, tokens: &[Token]) -> Result<Vec<Step>, Stop>
     Ok(steps)
 }
 
-/// One turn: the symbol that was on top of the stack is a terminal and is shifted, or a rule and is expanded. None
-/// where neither can be.
+/// One turn: the symbol that was on top of the stack is a terminal and is shifted, or a rule and is
+/// expanded. None where neither can be.
 fn turn(
     stack: &mut Vec<Symbol>,
     steps: &mut Vec<Step>,

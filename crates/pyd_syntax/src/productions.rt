@@ -1,12 +1,19 @@
 //! The productions as codes. Written by tools/grammar_tables.py from specs/Grammar.antt.
 
+/// The rule of a whole source.
+pub const START: u8 = 0;
+
 /// How many productions there are.
 pub const PRODUCTIONS: u8 = 104;
 
 /// The greatest number of symbols of a production.
 pub const WIDTH: u8 = 6;
 
-/// The codes of each production's symbols: a terminal's is its number, a rule's is 128 more than its number.
+/// The code of the first rule.
+pub const FIRST_RULE: u8 = 128;
+
+/// The codes of each production's symbols: a terminal's is its number, and a rule's its number behind
+/// `FIRST_RULE`.
 pub const SYMBOLS: [[u8; 6]; 104] = [
     [129, 0, 0, 0, 0, 0],
     [130, 129, 0, 0, 0, 0],

@@ -1,10 +1,11 @@
-//! Which production goes on for a rule before each terminal. Written by tools/grammar_tables.py from
-//! specs/Grammar.antt.
+//! Which production goes on for a rule before each terminal. Written by
+//! tools/grammar_tables.py from specs/Grammar.antt.
 
 /// How many rules there are.
 pub const RULES: u8 = 55;
 
-/// For each rule, the production before each terminal; as many as there are productions where none goes on.
+/// For each rule, the production before each terminal; as many as there are productions where none
+/// goes on.
 pub const TABLE: [[u8; 43]; 55] = [
     [
         104, 0, 104, 104, 104, 0, 0, 0, 0, 0, 104, 0, 0, 104, 104, 0, 0, 104, 0, 0, 0, 0, 0, 104,
