@@ -15,5 +15,6 @@ ahead_at (t ∷ ts) (suc i) d l = ahead_at ts i d (omega arith)
 pub within : (tokens : List Token) (i : ℕ) → i < length tokens → i < length (terminals tokens)
 within tokens i l = let e = length-map tokens (λ token. terminal token.kind) in omega arith
 
+-- no token, no terminal
 pub beyond : (tokens : List Token) (i : ℕ) → length tokens ≤ i → length (terminals tokens) ≤ i
 beyond tokens i l = let e = length-map tokens (λ token. terminal token.kind) in omega arith

@@ -6,23 +6,29 @@ use Rattle.pyd_syntax.specs.Grammar.{Production}
 use Rattle.pyd_syntax.specs.Derivation.{none, of_production}
 use Rattle.pyd_syntax.specs.Table.{Table, entry, in_range}
 
+-- a list of numbers has this one
 abbrev pub has : List ℕ → ℕ → Bool
 has [] t = false
 has (x ∷ xs) t = eqb x t || has xs t
 
+-- all numbers of a list pass
 abbrev pub every : (ℕ → Bool) → List ℕ → Bool
 every f [] = true
 every f (x ∷ xs) = f x && every f xs
 
+-- a rule may stand for nothing
 abbrev pub is_nullable : Table → ℕ → Bool
 is_nullable g n = get_or g.nullable n false
 
+-- the terminals with which a rule may begin
 abbrev pub first_of_rule : Table → ℕ → List ℕ
 first_of_rule g n = get_or g.first n []
 
+-- the terminals that may come behind a rule
 abbrev pub follow_of : Table → ℕ → List ℕ
 follow_of g n = get_or g.follow n []
 
+-- all symbols may stand for nothing
 abbrev pub nulls : Table → List Symbol → Bool
 nulls g [] = true
 nulls g (Terminal k ∷ ss) = false
@@ -34,6 +40,7 @@ starts g [] = []
 starts g (Terminal k ∷ ss) = k ∷ []
 starts g (Rule n ∷ ss) = first_of_rule g n ++ cond (is_nullable g n) (starts g ss) []
 
+-- what may come behind each rule of these symbols is in its follow set
 abbrev pub follows_ok : Table → List ℕ → List Symbol → Bool
 follows_ok g after [] = true
 follows_ok g after (Terminal k ∷ ss) = follows_ok g after ss
@@ -42,6 +49,7 @@ follows_ok g after (Rule m ∷ ss) =
     && (cond (nulls g ss) (every (has (follow_of g m)) after) true
     && follows_ok g after ss)
 
+-- the lead of a symbol
 abbrev pub lead_of : Table → Symbol → ℕ
 lead_of g (Terminal k) = 0
 lead_of g (Rule n) = get_or g.lead n 0
@@ -51,9 +59,11 @@ abbrev pub lead_ok : Table → ℕ → List Symbol → Bool
 lead_ok g w [] = leb g.bound w
 lead_ok g w (s ∷ ss) = leb (lead_of g s + suc (length ss)) w
 
+-- the table has this production
 abbrev pub is_chosen : Table → ℕ → ℕ → ℕ → Bool
 is_chosen g n p t = eqb (entry g n t) p
 
+-- a production fits the table and the sets
 abbrev pub form_ok : Table → ℕ → Production → Bool
 form_ok g p f =
     every (is_chosen g f.of p) (starts g f.to)
@@ -83,6 +93,7 @@ made_of rules [] = true
 made_of rules (Terminal k ∷ ss) = made_of rules ss
 made_of rules (Rule n ∷ ss) = has rules n && made_of rules ss
 
+-- the list has all numbers below this one
 abbrev pub below_all : List ℕ → ℕ → Bool
 below_all rules zero = true
 below_all rules (suc n) = has rules n && below_all rules n
@@ -95,6 +106,7 @@ witness_ok g rules (p ∷ ps) =
     && (made_of rules (get_or g.productions p none).to
     && witness_ok g (of_production g.productions p ∷ rules) ps)
 
+-- a number is within a bound
 abbrev pub at_most : ℕ → ℕ → Bool
 at_most b x = leb x b
 

@@ -11,6 +11,7 @@ use Rattle.pyd_syntax.specs.Table.{Table, entry, ahead, in_range}
 use Rattle.pyd_syntax.proofs.Check.{has, is_nullable, first_of_rule, follow_of, nulls, starts, follows_ok}
 use Rattle.pyd_syntax.proofs.Valid.{Valid, every_at, when_true}
 
+-- what the front has, the whole has
 has_left : (xs ys : List ℕ) (t : ℕ) → has xs t ≡ true → has (xs ++ ys) t ≡ true
 has_left [] ys t h = cc
 has_left (x ∷ xs) ys t h = elim (or_cases (eqb x t) (has xs t) h) [
@@ -18,6 +19,7 @@ has_left (x ∷ xs) ys t h = elim (or_cases (eqb x t) (has xs t) h) [
   | inr e ↦ or_right (eqb x t) (has (xs ++ ys) t) (has_left xs ys t e)
 ]
 
+-- what the rear has, the whole has
 has_right : (xs ys : List ℕ) (t : ℕ) → has ys t ≡ true → has (xs ++ ys) t ≡ true
 has_right [] ys t h = h
 has_right (x ∷ xs) ys t h = or_right (eqb x t) (has (xs ++ ys) t) (has_right xs ys t h)
@@ -28,10 +30,12 @@ may_come g [] t = eqb t OTHER
 may_come g (Terminal k ∷ ss) t = eqb k t
 may_come g (Rule n ∷ ss) t = has (first_of_rule g n) t || (is_nullable g n && may_come g ss t)
 
+-- what is there under a condition is there where it holds
 only_when : (b : Bool) (xs : List ℕ) (t : ℕ) → b ≡ true → has xs t ≡ true → has (cond b xs []) t ≡ true
 only_when true xs t e h = h
 only_when false xs t e h = cc
 
+-- what may come is of the front, or of the rear where the front may be nothing
 pub in_front : (g : Table) (a ss : List Symbol) (t : ℕ) → may_come g (a ++ ss) t ≡ true → (has (starts g a) t ≡ true) ⊎ ((nulls g a ≡ true) × (may_come g ss t ≡ true))
 in_front g [] ss t h = inr (refl, h)
 in_front g (Terminal k ∷ a) ss t h = inl (or_left (eqb k t) false h)
@@ -68,6 +72,7 @@ Follows g [] = Unit {0}
 Follows g (Terminal k ∷ ss) = Follows g ss
 Follows g (Rule n ∷ ss) = ((t : ℕ) → may_come g ss t ≡ true → has (follow_of g n) t ≡ true) × Follows g ss
 
+-- the symbols of a production keep the follow sets
 pub follows_on : (g : Table) (after : List ℕ) (a ss : List Symbol) → follows_ok g after a ≡ true → ((t : ℕ) → may_come g ss t ≡ true → has after t ≡ true) → Follows g ss → Follows g (a ++ ss)
 follows_on g after [] ss h m f = f
 follows_on g after (Terminal k ∷ a) ss h m f = follows_on g after a ss h m f

@@ -23,6 +23,7 @@ abbrev inner : Symbol → Bool
 inner (Terminal k) = cond (eqb k END) false true
 inner (Rule n) = ltb items n
 
+-- all symbols are so
 abbrev all_inner : List Symbol → Bool
 all_inner [] = true
 all_inner (s ∷ ss) = inner s && all_inner ss
@@ -38,46 +39,57 @@ abbrev ends_ok : List Production → Bool
 ends_ok [] = true
 ends_ok (p ∷ ps) = cond (leb p.of items) (closed p.to) (all_inner p.to) && ends_ok ps
 
+-- the grammar passes
 grammar_ends : ends_ok grammar ≡ true
 unfolding grammar
 grammar_ends = refl
 
+-- each production passes
 production_at : (g : List Production) (p : ℕ) → ends_ok g ≡ true → p < length g → cond (leb (of_production g p) items) (closed (symbols g p)) (all_inner (symbols g p)) ≡ true
 production_at [] p h l = absurd (omega arith)
 production_at (x ∷ g) zero h l = (and_parts _ _ h).0
 production_at (x ∷ g) (suc p) h l = production_at g p (and_parts _ _ h).1 (omega arith)
 
+-- what holds unless a test holds
 when_false : (b c d : Bool) → cond b c d ≡ true → b ≡ false → d ≡ true
 when_false true c d h e = cc
 when_false false c d h e = h
 
+-- a test that cannot hold is false
 refuted : (b : Bool) → (b ≡ true → ⊥) → b ≡ false
 refuted true h = absurd (h refl)
 refuted false h = refl
 
+-- of two numbers one is above
 above : (n m : ℕ) → ltb m n ≡ true → leb n m ≡ false
 above n m h = refuted (leb n m) (λ e. let a = ltb-true m n h in let b = leb-true n m e in omega arith)
 
+-- one more symbol in front
 closed_more : (x : Symbol) (ss : List Symbol) → inner x ≡ true → closed ss ≡ true → closed (x ∷ ss) ≡ true
 closed_more x [] h c = cc
 closed_more x (s ∷ ss) h c = and_from (inner x) (closed (s ∷ ss)) h c
 
+-- more symbols in front
 closed_on : (a ss : List Symbol) → all_inner a ≡ true → closed ss ≡ true → closed (a ++ ss) ≡ true
 closed_on [] ss h c = c
 closed_on (x ∷ a) ss h c = let y = and_parts (inner x) (all_inner a) h in closed_more x (a ++ ss) y.0 (closed_on a ss y.1 c)
 
+-- no symbol stands for no terminal
 nothing_left : (g : List Production) (steps : List Step) (ts : List ℕ) → Derives g steps [] ts → ts ≡ []
 nothing_left g [] [] d = refl
 nothing_left g [] (t ∷ ts) d = absurd d
 nothing_left g (Shift ∷ steps) ts d = absurd d
 nothing_left g (Expand p ∷ steps) ts d = absurd d
 
+-- a terminal isn't the end
 abbrev pub NotEnd : ℕ → Type 0
 NotEnd t = t ≡ END → ⊥
 
+-- a shifted inner symbol isn't the end
 not_end : (k t : ℕ) → cond (eqb k END) false true ≡ true → k ≡ t → t ≡ END → ⊥
 not_end k t h e f = let z = when_true (eqb k END) false true h (eq-eqb k END (e ∙ f)) in cc
 
+-- what closed symbols stand for ends with the end, and has it once
 ends : (g : List Production) → ends_ok g ≡ true → (steps : List Step) (ss : List Symbol) (ts : List ℕ) → closed ss ≡ true → Derives g steps ss ts → EndsOnce ts
 ends g v [] [] ts c d = cc
 ends g v [] (s ∷ ss) ts c d = absurd d

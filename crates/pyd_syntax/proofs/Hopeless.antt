@@ -19,14 +19,17 @@ not_before g ss ts i j a b l =
     let P : List ℕ → Type 0 = λ z. Begins g ss z in
     a.hopeless (subst P (take-take (i + 1) j ts (omega arith)) (front_begins g ss (take j ts) (i + 1) b.before))
 
+-- what has a hopeless terminal isn't what the symbols stand for
 pub hopeless_none : (g : List Production) (ss : List Symbol) (ts : List ℕ) (i : ℕ) → FirstHopeless g ss ts i → Stands g ss ts → ⊥
 hopeless_none g ss ts i h s =
     let P : List ℕ → Type 0 = λ z. Stands g ss z in
     h.hopeless (drop (i + 1) ts, subst P (sym (take-append-drop (i + 1) ts)) s)
 
+-- what has a hopeless terminal isn't unfinished
 pub hopeless_or_unfinished : (g : List Production) (ss : List Symbol) (ts : List ℕ) (i : ℕ) → FirstHopeless g ss ts i → Unfinished g ss ts → ⊥
 hopeless_or_unfinished g ss ts i h u = h.hopeless (front_begins g ss ts (i + 1) u.begins)
 
+-- there is one first hopeless place
 pub one_place : (g : List Production) (ss : List Symbol) (ts : List ℕ) (i j : ℕ) → FirstHopeless g ss ts i → FirstHopeless g ss ts j → i ≡ j
 one_place g ss ts i j a b = elim (cases_lt i j) [
   | inl e ↦ absurd (not_before g ss ts i j a b e)

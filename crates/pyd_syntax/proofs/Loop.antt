@@ -9,16 +9,18 @@ use Rattle.pyd_syntax.specs.declared.stop.Stop.TheVariants.{Hopeless, Unfinished
 use Rattle.pyd_syntax.specs.Grammar.{grammar, start}
 use Rattle.pyd_syntax.specs.Derivation.{Derives, Stands, FirstHopeless, Unfinished}
 use Rattle.pyd_syntax.specs.Table.{table, Stuck, Turned}
-use Rattle.pyd_syntax.specs.Script.{IfHopeless, IfUnfinished, IfNone, StopsAt}
+use Rattle.pyd_syntax.specs.Script.{IfHopeless, IfUnfinished, UnlessNoMemory, StopsAt}
 use Rattle.pyd_syntax.proofs.Turns.{Reads, left, turned, falls_turned, stopped, ended, done, too_much}
 use Rattle.pyd_syntax.specs.declared.terminal.TheConstants.{END}
 use Rattle.pyd_syntax.proofs.Hopeless.{hopeless_none}
 use Rattle.pyd_syntax.proofs.Ends.{finished}
 use Rattle.pyd_syntax.proofs.Entries.{table_valid, begins}
 
+-- the stack without its top
 popped : (old rest : List Symbol) (s : Symbol) → old ≡ rest ++ s ∷ [] → reverse old ≡ s ∷ reverse rest
 popped old rest s e = ap reverse e ∙ reverse-append rest (s ∷ [])
 
+-- what holds of the parser, with the top apart
 on_top : (ts : List ℕ) (old rest : List Symbol) (s : Symbol) (steps : List Step) (i : ℕ) → old ≡ rest ++ s ∷ [] →
     Reads table start ts (reverse old) steps i → Reads table start ts (s ∷ reverse rest) steps i
 on_top ts old rest s steps i e r = subst (λ (z : List Symbol). Reads table start ts z steps i) (popped old rest s e) r
@@ -50,11 +52,12 @@ on_less ts old rest new s steps steps2 i j next e t o =
 
 -- what the answer says where there is no derivation
 pub record Stopped (ts : List ℕ) (stop : Stop) : Type 0 where
-  pub none : IfNone stop (Stands grammar start ts → ⊥)
+  pub none : UnlessNoMemory stop (Stands grammar start ts → ⊥)
   pub hopeless : IfHopeless stop (FirstHopeless grammar start ts)
   pub unfinished : IfUnfinished stop (Unfinished grammar start ts)
   pub ended : IfUnfinished stop ((front : List ℕ) × (ts ≡ front ++ END ∷ []) → ⊥)
 
+-- what a hopeless terminal says
 pub stopped_hopeless : (ts : List ℕ) (i : ℕ) → FirstHopeless grammar start ts i → Stopped ts (Hopeless i)
 stopped_hopeless ts i first = record { none = hopeless_none grammar start ts i first; hopeless = first; unfinished = tt; ended = tt }
 
@@ -80,6 +83,7 @@ on_stuck ts old rest new s steps steps2 i next stop e r t o h =
         record { none = unfinished.none; hopeless = tt; unfinished = unfinished; ended = λ e. finished ts e.0 e.1 unfinished }
     at_stop NoMemory h = absurd h
 
+-- what holds of the parser with no symbol left
 emptied : (ts : List ℕ) (old : List Symbol) (steps : List Step) (i : ℕ) → old ≡ [] → Reads table start ts (reverse old) steps i → Reads table start ts [] steps i
 emptied ts old steps i e r = subst (λ (z : List Symbol). Reads table start ts z steps i) (ap reverse e) r
 

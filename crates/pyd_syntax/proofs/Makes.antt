@@ -28,20 +28,25 @@ joined g (Expand p ∷ a) b [] us x y d e = absurd d
 abbrev pub Makes : Table → List Symbol → Type 0
 Makes g ss = (ts : List ℕ) × Stands g.productions ss ts
 
+-- symbols one behind the other
 makes_both : (g : Table) (ss us : List Symbol) → Makes g ss → Makes g us → Makes g (ss ++ us)
 makes_both g ss us (x, (a, d)) (y, (b, e)) = (x ++ y, (a ++ b, joined g a b ss us x y d e))
 
+-- a terminal stands for itself
 makes_token : (g : Table) (k : ℕ) → Makes g (Terminal k ∷ [])
 makes_token g k = (k ∷ [], (Shift ∷ [], (refl, tt)))
 
+-- symbols whose rules stand for some
 makes_list : (g : Table) (rules : List ℕ) → ((m : ℕ) → has rules m ≡ true → Makes g (Rule m ∷ [])) → (ss : List Symbol) → made_of rules ss ≡ true → Makes g ss
 makes_list g rules all [] h = ([], ([], tt))
 makes_list g rules all (Terminal k ∷ ss) h = makes_both g (Terminal k ∷ []) ss (makes_token g k) (makes_list g rules all ss h)
 makes_list g rules all (Rule n ∷ ss) h = let x = and_parts _ _ h in makes_both g (Rule n ∷ []) ss (all n x.0) (makes_list g rules all ss x.1)
 
+-- a rule by one of its productions
 makes_rule : (g : Table) (p : ℕ) → p < length g.productions → Makes g (symbols g.productions p) → Makes g (Rule (of_production g.productions p) ∷ [])
 makes_rule g p l (x, (a, d)) = (x, (Expand p ∷ a, (l, refl, let P : List Symbol → Type 0 = λ z. Derives g.productions a z x in subst P (sym (append-nil (symbols g.productions p))) d)))
 
+-- a list of all numbers below has each
 below_has : (rules : List ℕ) (n m : ℕ) → below_all rules n ≡ true → m < n → has rules m ≡ true
 below_has rules zero m h l = absurd (omega arith)
 below_has rules (suc n) m h l = elim (cases_lt m n) [
@@ -49,6 +54,7 @@ below_has rules (suc n) m h l = elim (cases_lt m n) [
   | inr e ↦ let same : n ≡ m = omega arith in let P : ℕ → Type 0 = λ z. has rules z ≡ true in subst P same (and_parts _ _ h).0
 ]
 
+-- the witnesses reach each rule
 makes_all : (g : Table) (rules ps : List ℕ) → ((m : ℕ) → has rules m ≡ true → Makes g (Rule m ∷ [])) → witness_ok g rules ps ≡ true → (m : ℕ) → m < length g.entries → Makes g (Rule m ∷ [])
 makes_all g rules [] all h m l = all m (below_has rules (length g.entries) m h l)
 makes_all g rules (p ∷ ps) all h m l =
@@ -60,9 +66,11 @@ makes_all g rules (p ∷ ps) all h m l =
       | inr i ↦ all k i
     ]) y.1 m l
 
+-- no rule is reached at first
 nothing_has : (g : Table) (m : ℕ) → has [] m ≡ true → Makes g (Rule m ∷ [])
 nothing_has g m h = cc
 
+-- symbols in range stand for some terminals
 pub makes : (g : Table) → Valid g → (ss : List Symbol) → in_range g ss ≡ true → Makes g ss
 makes g v [] h = ([], ([], tt))
 makes g v (Terminal k ∷ ss) h = makes_both g (Terminal k ∷ []) ss (makes_token g k) (makes g v ss h)

@@ -22,28 +22,34 @@ pub record Reads (g : Table) (st : List Symbol) (ts : List ℕ) (ss : List Symbo
   pub forward : (more : List Step) (rest : List ℕ) → Derives g.productions more ss rest → Derives g.productions (steps ++ more) st (take i ts ++ rest)
   pub back : (rest : List ℕ) → ahead rest ≡ ahead (drop i ts) → Stands g.productions st (take i ts ++ rest) → Stands g.productions ss rest
 
+-- one more terminal is taken
 next_taken : (ts rest : List ℕ) (i k : ℕ) → i < length ts → get_or ts i 0 ≡ k → take (i + 1) ts ++ rest ≡ take i ts ++ k ∷ rest
 next_taken ts rest i k l e =
     ap (λ (z : List ℕ). z ++ rest) (take_more ts i 0 l ∙ ap (λ (z : ℕ). take i ts ++ z ∷ []) e) ∙ append_assoc (take i ts) (k ∷ []) rest
 
+-- the terminal ahead is the one at the place
 pub next_ahead : (ts : List ℕ) (i : ℕ) → i < length ts → ahead (drop i ts) ≡ get_or ts i 0
 next_ahead ts i l = ap ahead (drop_more ts i 0 l)
 
+-- what follows a terminal
 after_token : (g : Table) (k : ℕ) (ss : List Symbol) (t : ℕ) (rest : List ℕ) → Stands g.productions (Terminal k ∷ ss) (t ∷ rest) → (k ≡ t) × Stands g.productions ss rest
 after_token g k ss t rest ([], d) = absurd d
 after_token g k ss t rest (Shift ∷ steps, d) = (d.0, (steps, d.1))
 after_token g k ss t rest (Expand p ∷ steps, d) = absurd d
 
+-- a terminal isn't nothing
 no_token : (g : Table) (k : ℕ) (ss : List Symbol) → Stands g.productions (Terminal k ∷ ss) [] → ⊥
 no_token g k ss ([], d) = d
 no_token g k ss (Shift ∷ steps, d) = d
 no_token g k ss (Expand p ∷ steps, d) = d
 
+-- no symbol stands for no terminal
 no_more : (g : Table) (t : ℕ) (rest : List ℕ) → Stands g.productions [] (t ∷ rest) → ⊥
 no_more g t rest ([], d) = d
 no_more g t rest (Shift ∷ steps, d) = d
 no_more g t rest (Expand p ∷ steps, d) = d
 
+-- a shift keeps what holds of the parser
 taken : (g : Table) (st : List Symbol) (ts : List ℕ) (k : ℕ) (ss : List Symbol) (steps : List Step) (i : ℕ) →
     Reads g st ts (Terminal k ∷ ss) steps i → i < length ts → get_or ts i 0 ≡ k → Reads g st ts ss (steps ++ Shift ∷ []) (i + 1)
 taken g st ts k ss steps i r l e = record {
@@ -59,6 +65,7 @@ taken g st ts k ss steps i r l e = record {
       (after_token g k ss k rest (r.back (k ∷ rest) (sym (next_ahead ts i l ∙ e)) (subst Q (next_taken ts rest i k l e) s))).1;
 }
 
+-- so does an expansion
 written : (g : Table) → Valid g → (st : List Symbol) (ts : List ℕ) (n : ℕ) (ss : List Symbol) (steps : List Step) (i q : ℕ) →
     Reads g st ts (Rule n ∷ ss) steps i → q ≡ entry g n (ahead (drop i ts)) → q < length g.productions → Reads g st ts (symbols g.productions q ++ ss) (steps ++ Expand q ∷ []) i
 written g v st ts n ss steps i q r e l =
@@ -78,6 +85,7 @@ written g v st ts n ss steps i q r e l =
           subst P (ap (entry g n) a ∙ sym e) (only_choice g v n ss rest r.follows (r.back rest a s)).1;
     }
 
+-- so does each turn
 pub turned : (g : Table) → Valid g → (st : List Symbol) (ts : List ℕ) (s : Symbol) (ss : List Symbol) (steps : List Step) (i : ℕ) (step : Step) (us : List Symbol) (j : ℕ) →
     Reads g st ts (s ∷ ss) steps i → Turn g ts s ss i step us j → Reads g st ts us (steps ++ step ∷ []) j
 turned g v st ts (Terminal k) ss steps i step us j r t =
@@ -85,6 +93,7 @@ turned g v st ts (Terminal k) ss steps i step us j r t =
 turned g v st ts (Rule n) ss steps i step us j r t =
     rw (t.1, t.2, t.3) (written g v st ts n ss steps i (entry g n (ahead (drop i ts))) r refl t.0)
 
+-- the parser begins with a rule that the end may follow
 pub begun : (g : Table) (ts : List ℕ) → (n : ℕ) → in_range g (Rule n ∷ []) ≡ true → has (follow_of g n) OTHER ≡ true → Reads g (Rule n ∷ []) ts (Rule n ∷ []) [] 0
 begun g ts n h f = record {
   within = omega arith;
@@ -94,6 +103,7 @@ begun g ts n h f = record {
   back = λ rest a s. s;
 }
 
+-- where the parser is stuck, nothing can go on
 cannot : (g : Table) → Valid g → (st : List Symbol) (ts : List ℕ) (s : Symbol) (ss : List Symbol) (steps : List Step) (i : ℕ) (rest : List ℕ) →
     Reads g st ts (s ∷ ss) steps i → Stuck g ts s i → ahead rest ≡ ahead (drop i ts) → (rest ≡ []) ⊎ (i < length ts) → Stands g.productions st (take i ts ++ rest) → ⊥
 cannot g v st ts (Terminal k) ss steps i [] r u a w s = no_token g k ss (r.back [] a s)
@@ -116,6 +126,7 @@ before : (g : Table) → Valid g → (st : List Symbol) (ts : List ℕ) (ss : Li
     Reads g st ts ss steps i → Begins g.productions st (take i ts)
 before g v st ts ss steps i r = let m = makes g v ss r.ranged in (m.0, (steps ++ m.1.0, r.forward m.1.0 m.0 m.1.1))
 
+-- where it is stuck before a terminal, that is the first hopeless one
 pub stopped : (g : Table) → Valid g → (st : List Symbol) (ts : List ℕ) (s : Symbol) (ss : List Symbol) (steps : List Step) (i : ℕ) →
     Reads g st ts (s ∷ ss) steps i → Stuck g ts s i → i < length ts → FirstHopeless g.productions st ts i
 stopped g v st ts s ss steps i r u l = record {
@@ -124,6 +135,7 @@ stopped g v st ts s ss steps i r u l = record {
   hopeless = none_with g v st ts s ss steps i r u l;
 }
 
+-- where it is stuck behind the last terminal, the terminals are unfinished
 pub ended : (g : Table) → Valid g → (st : List Symbol) (ts : List ℕ) (s : Symbol) (ss : List Symbol) (steps : List Step) (i : ℕ) →
     Reads g st ts (s ∷ ss) steps i → Stuck g ts s i → length ts ≤ i → Unfinished g.productions st ts
 ended g v st ts s ss steps i r u l = record {
@@ -140,6 +152,7 @@ done g st ts steps i r l =
     let Q : List ℕ → Type 0 = λ z. Derives g.productions (steps ++ []) st z in
     subst P (append-nil steps) (subst Q (append-nil (take i ts) ∙ take_all i ts l) (r.forward [] [] tt))
 
+-- a terminal behind all symbols is hopeless
 pub too_much : (g : Table) (st : List Symbol) (ts : List ℕ) (steps : List Step) (i : ℕ) → Reads g st ts [] steps i → i < length ts → FirstHopeless g.productions st ts i
 too_much g st ts steps i r l = record {
   within = l;
@@ -153,24 +166,30 @@ abbrev pub top : Table → List Symbol → ℕ
 top g [] = 0
 top g (s ∷ ss) = lead_of g s
 
+-- what falls in each turn
 unfoldable pub left : Table → List ℕ → List Symbol → ℕ → ℕ
 left g ts ss i = (g.bound + 1) * (length ts - i) + (length ss + top g ss)
 
+-- leads are within the bound
 lead_bounded : (g : Table) → Valid g → (s : Symbol) → lead_of g s ≤ g.bound
 lead_bounded g v (Terminal k) = omega arith
 lead_bounded g v (Rule n) = v.bounded n
 
+-- so is that of the top
 top_bounded : (g : Table) → Valid g → (ss : List Symbol) → top g ss ≤ g.bound
 top_bounded g v [] = omega arith
 top_bounded g v (s ∷ ss) = lead_bounded g v s
 
+-- an expansion makes stack and lead together less
 lighter : (g : Table) → Valid g → (w : ℕ) (to ss : List Symbol) → lead_ok g w to ≡ true → length (to ++ ss) + top g (to ++ ss) < suc (length ss) + w
 lighter g v w [] ss h = let a = top_bounded g v ss in let b = leb-true g.bound w h in omega arith
 lighter g v w (s ∷ to) ss h = let b = leb-true (lead_of g s + suc (length to)) w h in omega (arith, length-append to ss)
 
+-- a shift weighs more than any lead
 down : (b x y m : ℕ) → x ≤ b → (b + 1) * m + (y + x) < (b + 1) * (m + 1) + (suc y + 0)
 down b x y m h = omega arith
 
+-- each turn makes it less
 pub falls_turned : (g : Table) → Valid g → (ts : List ℕ) (s : Symbol) (ss : List Symbol) (i : ℕ) (step : Step) (us : List Symbol) (j : ℕ) →
     Turn g ts s ss i step us j → left g ts us j < left g ts (s ∷ ss) i
 unfolding left

@@ -10,16 +10,19 @@ use Rattle.pyd_syntax.proofs.Check.{has, follow_of}
 use Rattle.pyd_syntax.proofs.Valid.{Valid}
 use Rattle.pyd_syntax.proofs.Choice.{Follows, follows_on, in_front, comes}
 
+-- no symbol takes no step
 no_steps : (g : Table) (b : List Step) → Derives g.productions b [] [] → b ≡ []
 no_steps g [] d = refl
 no_steps g (Shift ∷ b) d = absurd d
 no_steps g (Expand p ∷ b) d = absurd d
 
+-- a terminal is shifted
 by_shift : (g : Table) (b : List Step) (k t : ℕ) (ss : List Symbol) (ts : List ℕ) → Derives g.productions b (Terminal k ∷ ss) (t ∷ ts) → (rest : List Step) × (b ≡ Shift ∷ rest) × Derives g.productions rest ss ts
 by_shift g [] k t ss ts d = absurd d
 by_shift g (Shift ∷ b) k t ss ts d = (b, refl, d.1)
 by_shift g (Expand p ∷ b) k t ss ts d = absurd d
 
+-- a derivation expands by the production of the table
 is_choice : (g : Table) → Valid g → (p n : ℕ) (ss : List Symbol) (ts : List ℕ) (b : List Step) → Follows g (Rule n ∷ ss) → p < length g.productions → of_production g.productions p ≡ n →
     Derives g.productions b (symbols g.productions p ++ ss) ts → p ≡ entry g n (ahead ts)
 is_choice g v p n ss ts b f l e d =
@@ -30,6 +33,7 @@ is_choice g v p n ss ts b f l e d =
     ] in
     sym chosen ∙ ap (λ (m : ℕ). entry g m (ahead ts)) e
 
+-- a rule is expanded by it
 by_rule : (g : Table) → Valid g → (b : List Step) (n : ℕ) (ss : List Symbol) (ts : List ℕ) → Follows g (Rule n ∷ ss) → Derives g.productions b (Rule n ∷ ss) ts →
     (rest : List Step) × (b ≡ Expand (entry g n (ahead ts)) ∷ rest) × Derives g.productions rest (symbols g.productions (entry g n (ahead ts)) ++ ss) ts
 by_rule g v [] n ss ts f d = absurd d
@@ -38,6 +42,7 @@ by_rule g v (Expand p ∷ b) n ss ts f d =
     let e = is_choice g v p n ss ts b f d.0 d.1 d.2 in
     (b, ap (λ (z : ℕ). Expand z ∷ b) e, subst (λ (z : ℕ). Derives g.productions b (symbols g.productions z ++ ss) ts) e d.2)
 
+-- two derivations are the same
 pub unique : (g : Table) → Valid g → (a b : List Step) (ss : List Symbol) (ts : List ℕ) → Follows g ss → Derives g.productions a ss ts → Derives g.productions b ss ts → a ≡ b
 unique g v [] b [] [] f d e = sym (no_steps g b e)
 unique g v [] b [] (t ∷ ts) f d e = absurd d

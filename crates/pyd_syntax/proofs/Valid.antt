@@ -7,6 +7,7 @@ use Rattle.pyd_syntax.specs.Derivation.{none, of_production, symbols}
 use Rattle.pyd_syntax.specs.Table.{Table, entry, in_range}
 use Rattle.pyd_syntax.proofs.Check.{has, every, is_nullable, first_of_rule, follow_of, nulls, starts, follows_ok, lead_ok, is_chosen, form_ok, unfit, entry_ok, wrong_rows, witness_ok, at_most, Fits, fit}
 
+-- what all pass, each passes
 pub every_at : (f : ℕ → Bool) (xs : List ℕ) (t : ℕ) → every f xs ≡ true → has xs t ≡ true → f t ≡ true
 every_at f [] t h m = cc
 every_at f (x ∷ xs) t h m = elim (or_cases _ _ m) [
@@ -14,11 +15,13 @@ every_at f (x ∷ xs) t h m = elim (or_cases _ _ m) [
   | inr e ↦ every_at f xs t (and_parts _ _ h).1 e
 ]
 
+-- so does each by its place
 pub every_get : (f : ℕ → Bool) (xs : List ℕ) (i d : ℕ) → every f xs ≡ true → f d ≡ true → f (get_or xs i d) ≡ true
 every_get f [] i d h m = m
 every_get f (x ∷ xs) zero d h m = (and_parts _ _ h).0
 every_get f (x ∷ xs) (suc i) d h m = every_get f xs i d (and_parts _ _ h).1 m
 
+-- each production passes
 form_at : (g : Table) (p : ℕ) (fs : List Production) (i : ℕ) → unfit g p fs ≡ [] → i < length fs → form_ok g (p + i) (get_or fs i none) ≡ true
 form_at g p [] i h l = absurd (omega arith)
 form_at g p (f ∷ fs) zero h l = let e : p ≡ p + 0 = omega arith in subst (λ (v : ℕ). form_ok g v f ≡ true) e (fit (form_ok g p f) p (unfit g (suc p) fs) h).0
@@ -36,10 +39,12 @@ pub record Fine (g : Table) (n p : ℕ) (to : List Symbol) : Type 0 where
   pub light : lead_ok g (get_or g.lead n 0) to ≡ true
   pub ranged : in_range g to ≡ true
 
+-- what holds where a test holds
 pub when_true : (b c d : Bool) → cond b c d ≡ true → b ≡ true → c ≡ true
 when_true true c d h e = h
 when_true false c d h e = cc
 
+-- what a production that passes shows
 fine_from : (g : Table) (p : ℕ) (f : Production) → form_ok g p f ≡ true → Fine g f.of p f.to
 fine_from g p f h =
     let a = and_parts _ _ h in
@@ -57,6 +62,7 @@ fine_from g p f h =
       ranged = e.1;
     }
 
+-- each row passes
 row_at : (g : Table) (n : ℕ) (rows : List (List ℕ)) (i : ℕ) → wrong_rows g n rows ≡ [] → every (entry_ok g (n + i)) (get_or rows i []) ≡ true
 row_at g n [] i h = refl
 row_at g n (row ∷ rows) zero h =
@@ -73,15 +79,18 @@ pub record Valid (g : Table) : Type 0 where
   pub made : witness_ok g [] g.witness ≡ true
   pub bounded : (n : ℕ) → get_or g.lead n 0 ≤ g.bound
 
+-- the mark for no production passes
 blank_ok : (g : Table) (n : ℕ) → entry_ok g n (length g.productions) ≡ true
 blank_ok g n = or_left _ _ (le-leb (length g.productions) (length g.productions) (omega arith))
 
+-- an entry that passes is a production of its rule
 right_from : (g : Table) (n p : ℕ) → entry_ok g n p ≡ true → p < length g.productions → of_production g.productions p ≡ n
 right_from g n p h l = elim (or_cases _ _ h) [
   | inl e ↦ let k : length g.productions ≤ p = leb-true _ _ e in absurd (omega arith)
   | inr e ↦ eqb-true _ _ e
 ]
 
+-- what the whole test shows
 pub valid_from : (g : Table) → Fits g → Valid g
 valid_from g f = record {
   fine = λ p l. fine_from g p (get_or g.productions p none)

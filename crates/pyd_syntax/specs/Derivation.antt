@@ -18,8 +18,8 @@ of_production g p = (get_or g p none).of
 abbrev pub symbols : List Production → ℕ → List Symbol
 symbols g p = (get_or g p none).to
 
--- These steps lead from these symbols to these terminals, from the left: a terminal is shifted where it is the next one,
--- and a rule is expanded to the symbols of one of its productions.
+-- these steps lead from these symbols to these terminals, from the left: a terminal is shifted where
+-- it comes next, and a rule is expanded to the symbols of one of its productions
 abbrev pub Derives : List Production → List Step → List Symbol → List ℕ → Type 0
 Derives g [] [] [] = Unit {0}
 Derives g [] [] (t ∷ ts) = ⊥
@@ -41,8 +41,8 @@ Stands g ss ts = (steps : List Step) × Derives g steps ss ts
 abbrev pub Begins : List Production → List Symbol → List ℕ → Type 0
 Begins g ss ts = (more : List ℕ) × Stands g ss (ts ++ more)
 
--- the terminals before this place begin some list that the symbols stand for, and with the one at this place they begin
--- none
+-- the terminals before this place begin some list that the symbols stand for, and with the one there
+-- they begin none
 pub record FirstHopeless (g : List Production) (ss : List Symbol) (ts : List ℕ) (i : ℕ) : Type 0 where
   pub within : i < length ts
   pub before : Begins g ss (take i ts)

@@ -1,6 +1,6 @@
--- The grammar: each rule with what it may stand for. Above the productions of a rule stands its line in the grammar of
--- docs/FORMATS.md, where braces repeat, brackets are optional and a bar chooses; what repeats or is optional is a rule of
--- its own here.
+-- The grammar: each rule with what it may stand for. Above the productions of a rule stands its line in
+-- the grammar of docs/FORMATS.md, where braces repeat, brackets are optional and a bar chooses. What
+-- repeats or is optional is a rule of its own here.
 use Rattle.std.specs.Prelude.{ℕ, List, [], ◌∷◌}
 use Rattle.pyd_syntax.specs.declared.symbol.Symbol.{Symbol}
 use Rattle.pyd_syntax.specs.declared.symbol.Symbol.TheVariants.{Terminal as T, Rule as R}
@@ -13,6 +13,7 @@ pub record Production : Type 0 where
   pub of : ℕ
   pub to : List Symbol
 
+-- a production as it is written below
 abbrev pub ◌⟶◌ : ℕ → List Symbol → Production
 rule ⟶ symbols = record { of = rule; to = symbols }
 
@@ -63,7 +64,7 @@ grammar =
     (targets_rest ⟶ []) ∷
     -- simple = tests [ '=' tests | AUG tests ] | 'pass' | 'break' | 'continue'
     --        | 'return' [ tests ] | 'assert' test [ ',' test ]
-    -- each with the NEWLINE that follows it in stmt
+    -- each with the NEWLINE that stands behind it in stmt
     (simple ⟶ R tests ∷ R assignment ∷ T NEWLINE ∷ []) ∷
     (simple ⟶ T PASS ∷ T NEWLINE ∷ []) ∷
     (simple ⟶ T BREAK ∷ T NEWLINE ∷ []) ∷
@@ -97,7 +98,7 @@ grammar =
     -- not = 'not' not | compare
     (not ⟶ T NOT ∷ R not ∷ []) ∷
     (not ⟶ R compare ∷ []) ∷
-    -- compare = bits { CMP bits }, where CMP is one of == != < <= > >= in, not in
+    -- compare = bits { CMP bits }, where CMP is any of == != < <= > >= in, not in
     (compare ⟶ R bits ∷ R compare_rest ∷ []) ∷
     (compare_rest ⟶ T CMP ∷ R bits ∷ R compare_rest ∷ []) ∷
     (compare_rest ⟶ T IN ∷ R bits ∷ R compare_rest ∷ []) ∷

@@ -1,4 +1,4 @@
--- Laws of scripts: the answer of the parser is the only one, and a script ends where its source does.
+-- Laws of scripts: there is one answer, and a script ends where its source does.
 use Rattle.std.specs.Prelude.{◌≡◌, ℕ, List, [], ◌∷◌, ◌++◌, All}
 use Rattle.pyd_lex.specs.declared.token.Token.{Token}
 use Rattle.pyd_syntax.specs.declared.terminal.TheConstants.{END}

@@ -42,10 +42,10 @@ IfUnfinished stop.Unfinished P = P
 IfUnfinished stop.NoMemory P = Unit {0}
 
 -- where the stop isn't want of memory, this holds
-abbrev pub IfNone : Stop → Type 0 → Type 0
-IfNone (stop.Hopeless i) P = P
-IfNone stop.Unfinished P = P
-IfNone stop.NoMemory P = Unit {0}
+abbrev pub UnlessNoMemory : Stop → Type 0 → Type 0
+UnlessNoMemory (stop.Hopeless i) P = P
+UnlessNoMemory stop.Unfinished P = P
+UnlessNoMemory stop.NoMemory P = Unit {0}
 
 -- what the parser answers where it is stuck at this place
 abbrev pub StopsAt : List ℕ → ℕ → Stop → Type 0

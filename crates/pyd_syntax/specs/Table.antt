@@ -26,6 +26,7 @@ pub record Table : Type 0 where
 unfoldable pub entries : List (List ℕ)
 entries = TABLE
 
+-- the table over the grammar
 abbrev pub table : Table
 table = record {
   productions = grammar;
@@ -57,8 +58,8 @@ in_range g (Rule n ∷ ss) = ltb n (length g.entries) && in_range g ss
 abbrev pub symbol_of : ℕ → Symbol
 symbol_of code = cond (ltb code FIRST_RULE) (Terminal code) (Rule (code - FIRST_RULE))
 
--- The symbol on top of the stack is a terminal that comes next, and is shifted; or a rule, and the table's production
--- stands for it.
+-- the symbol on top of the stack is a terminal that comes next, and is shifted; or a rule, and is
+-- expanded by the table's production
 abbrev pub Turn : Table → List ℕ → Symbol → List Symbol → ℕ → Step → List Symbol → ℕ → Type 0
 Turn g ts (Terminal k) ss i step us j =
     (i < length ts) × (get_or ts i 0 ≡ k) × (step ≡ Shift) × (us ≡ ss) × (j ≡ i + 1)

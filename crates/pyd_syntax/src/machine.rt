@@ -4,7 +4,7 @@ ghost use Rattle.std.specs.Prelude.{◌≡◌, ◌+◌, ◌<◌, ◌≤◌, [], 
 ghost use Rattle.pyd_syntax.specs.Terminals.{terminals};
 ghost use Rattle.pyd_syntax.specs.Grammar.{grammar};
 ghost use Rattle.pyd_syntax.specs.Derivation.{symbols};
-ghost use Rattle.pyd_syntax.specs.Script.{IsDerivation, IsScript, IsFirstHopeless, IsUnfinished, EndsAtEnd, IfHopeless, IfUnfinished, IfNone, StopsAt};
+ghost use Rattle.pyd_syntax.specs.Script.{IsDerivation, IsScript, IsFirstHopeless, IsUnfinished, EndsAtEnd, IfHopeless, IfUnfinished, UnlessNoMemory, StopsAt};
 ghost use Rattle.pyd_syntax.specs.Table.{table, entry, ahead, in_range, Turned};
 
 use crate::code::{length, symbol};
@@ -22,7 +22,7 @@ use std::alloc::Global;
 /// source, the last of them its end; the grammar is the one of docs/FORMATS.md, "Grammar".
 pub fn derive(alloc: Global, tokens: &[Token]) -> Result<Vec<Step>, Stop>
     ensures ok { IfOk result (λ steps. IsDerivation steps.items tokens.now) }
-    ensures none { IfErr result (λ stop. IfNone stop (IsScript tokens.now → ⊥)) }
+    ensures none { IfErr result (λ stop. UnlessNoMemory stop (IsScript tokens.now → ⊥)) }
     ensures hopeless { IfErr result (λ stop. IfHopeless stop (IsFirstHopeless tokens.now)) }
     ensures unfinished { IfErr result (λ stop. IfUnfinished stop (IsUnfinished tokens.now)) }
     ensures ended { IfErr result (λ stop. IfUnfinished stop (EndsAtEnd tokens.now → ⊥)) }
@@ -106,7 +106,8 @@ fn entry(rule: u8, terminal: u8) -> u8
 /// Puts the symbols of a production on the stack, the first on top.
 fn expand(stack: &mut Vec<Symbol>, production: u8) -> Result<(), NoMemory>
     requires { production < PRODUCTIONS }
-    ensures ok { OnOk result (reverse stack.new.items ≡ symbols grammar production ++ reverse stack.old.items) }
+    ensures ok { OnOk result
+        (reverse stack.new.items ≡ symbols grammar production ++ reverse stack.old.items) }
 {
     let mut i = length(production);
     while i > 0 {
