@@ -19,7 +19,7 @@ use pyd_value::NoMemory;
 use std::alloc::Global;
 
 /// The steps that derive these tokens, from the left, or why there are none. The tokens are all of a
-/// source, the last of them its end; the grammar is the one of docs/FORMATS.md, "Grammar".
+/// source, the last of them its end; docs/FORMATS.md has the grammar, under "The grammar".
 pub fn derive(alloc: Global, tokens: &[Token]) -> Result<Vec<Step>, Stop>
     ensures ok { IfOk result (λ steps. IsDerivation steps.items tokens.now) }
     ensures none { IfErr result (λ stop. UnlessNoMemory stop (IsScript tokens.now → ⊥)) }
