@@ -9,4 +9,5 @@ pub mod Entries
 pub mod Hopeless
 pub mod Ends
 pub mod Loop
+pub mod Runs
 pub mod Unique

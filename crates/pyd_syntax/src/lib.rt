@@ -11,7 +11,7 @@ mod symbol;
 mod table;
 mod terminal;
 
-pub use laws::{end_comes_last, one_derivation, one_first_hopeless};
+pub use laws::{an_answer, end_comes_last, one_derivation, one_first_hopeless};
 pub use machine::derive;
 pub use step::Step;
 pub use stop::Stop;
