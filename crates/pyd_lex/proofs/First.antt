@@ -35,11 +35,11 @@ Falls p next f = (f ≡ fault.BadDedent p.line) ⊎ ((vs : List ℕ) × (next vs
 abbrev Goes : Next → Type 0
 Goes next = (vs : List ℕ) × (us : List Token) × (next vs ≡ Ok us)
 
-lowered_none : (w : ℕ) (p : Place) (next : Next) (b : Bool) → (w == 0) ≡ b → lowered w p [] next ≡ (if b then next [] else Err (fault.BadDedent p.line))
+pub lowered_none : (w : ℕ) (p : Place) (next : Next) (b : Bool) → (w == 0) ≡ b → lowered w p [] next ≡ (if b then next [] else Err (fault.BadDedent p.line))
 unfolding lowered
 lowered_none w p next b e = rw e refl
 
-lowered_some : (w v : ℕ) (p : Place) (vs : List ℕ) (next : Next) (b c : Bool) → nat_lt w v ≡ b → (w == v) ≡ c → lowered w p (v ∷ vs) next ≡ (if b then ahead (empty_at kind.Dedent p ∷ []) (lowered w p vs next) else (if c then next (v ∷ vs) else Err (fault.BadDedent p.line)))
+pub lowered_some : (w v : ℕ) (p : Place) (vs : List ℕ) (next : Next) (b c : Bool) → nat_lt w v ≡ b → (w == v) ≡ c → lowered w p (v ∷ vs) next ≡ (if b then ahead (empty_at kind.Dedent p ∷ []) (lowered w p vs next) else (if c then next (v ∷ vs) else Err (fault.BadDedent p.line)))
 unfolding lowered
 lowered_some w v p vs next b c e f = rw (e, f) refl
 
@@ -70,7 +70,7 @@ lowered_ok : (w : ℕ) (p : Place) (ws : List ℕ) (next : Next) (ts : List Toke
 lowered_ok w p [] next ts h = ok_none w p next ts (w == 0) refl h
 lowered_ok w p (v ∷ vs) next ts h = ok_some w v p vs next ts (nat_lt w v) (w == v) (lowered_ok w p vs next) refl refl h
 
-indented_is : (w : ℕ) (p : Place) (ws : List ℕ) (next : Next) (b : Bool) → nat_lt (top ws) w ≡ b → indented w p ws next ≡ (if b then ahead (empty_at kind.Indent p ∷ []) (next (w ∷ ws)) else lowered w p ws next)
+pub indented_is : (w : ℕ) (p : Place) (ws : List ℕ) (next : Next) (b : Bool) → nat_lt (top ws) w ≡ b → indented w p ws next ≡ (if b then ahead (empty_at kind.Indent p ∷ []) (next (w ∷ ws)) else lowered w p ws next)
 unfolding indented
 indented_is w p ws next b e = rw e refl
 

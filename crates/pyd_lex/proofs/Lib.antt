@@ -9,3 +9,4 @@ pub mod Values
 pub mod Unique
 pub mod First
 pub mod Spans
+pub mod TokenBytes

@@ -9,3 +9,4 @@ pub mod Scan
 pub mod Reads
 pub mod Texts
 pub mod Laws
+pub mod TokenBytes

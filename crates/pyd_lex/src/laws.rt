@@ -1,6 +1,7 @@
 //! Laws of the relation between bytes and tokens, each proved by the contract of an empty function.
 
 ghost use Rattle.pyd_lex.specs.Laws.{OneAnswer, AnAnswer, FirstFault, AllWell, Spelled};
+ghost use Rattle.pyd_lex.specs.TokenBytes.{TokenBytes, TokenTexts};
 
 /// Bytes have no two answers, so what `tokens` answers is the only one.
 pub fn one_answer()
@@ -25,4 +26,16 @@ pub fn all_well()
 /// The bytes of each piece of the cut are the piece, so `text_of` gives a string token's value.
 pub fn spelled()
     ensures { Spelled }
+{}
+
+/// The tokens of bytes stand in them in order, and their bytes are in UTF-8 and spell them; the end
+/// comes last and only there, and each indent has its dedent.
+pub fn token_bytes()
+    ensures { TokenBytes }
+{}
+
+/// A text that means a token spells one of its kind: a name, a keyword, an integer of this value, a
+/// string or a mark.
+pub fn token_texts()
+    ensures { TokenTexts }
 {}

@@ -20,7 +20,7 @@ mod widths;
 mod word;
 
 pub use fault::{LexFault, LexStop};
-pub use laws::{all_well, an_answer, first_fault, one_answer, spelled};
+pub use laws::{all_well, an_answer, first_fault, one_answer, spelled, token_bytes, token_texts};
 pub use mark::Mark;
 pub use scan::tokens;
 pub use text::text_of;
