@@ -7,6 +7,6 @@ pub mod Pieces
 pub mod Steps
 pub mod Values
 pub mod Unique
-pub mod First
 pub mod Spans
 pub mod TokenBytes
+pub mod Faults

@@ -1,7 +1,8 @@
 -- the scanner's steps say what the lines say
-use Rattle.std.proofs.Common.{◌≡◌, ℕ, ◌+◌, Bool, true, false, ◌||◌, ◌==◌, List, [], ◌∷◌, ◌++◌, Ok, Err, refl, sym, ap, ◌∙◌, arith, append_assoc, add-zero, zero-add}
+use Rattle.std.proofs.Common.{◌≡◌, ℕ, ◌+◌, Bool, true, false, ◌||◌, ◌==◌, nat_lt, if◌then◌else◌, List, [], ◌∷◌, ◌++◌, Ok, Err, refl, sym, ap, ◌∙◌, arith, append_assoc, add-zero, zero-add}
 use Rattle.std.proofs.lemmas.Bool.{eqb-true}
 use Rattle.std.proofs.Math.Bool.{or-true}
+use Rattle.pyd_lex.specs.declared.fault.LexFault.TheVariants as fault
 use Rattle.pyd_lex.specs.declared.place.Place.{Place}
 use Rattle.pyd_lex.specs.declared.mode.Mode.TheVariants.{Margin, Inside}
 use Rattle.pyd_lex.specs.declared.token.Shape.TheVariants.{Space, Tab, Comment, Break, Token as Spelled}
@@ -9,7 +10,7 @@ use Rattle.pyd_lex.specs.declared.token.Token.{Token}
 use Rattle.pyd_lex.specs.declared.token.TokenKind.TheVariants as kind
 use Rattle.pyd_lex.specs.Words.{Text}
 use Rattle.pyd_lex.specs.Meaning.{Judged}
-use Rattle.pyd_lex.specs.Lines.{Piece, Lines, Answer, ahead, shown, token_at, said, lines, laid, line_said, content, width, has_tab, all_lines, read, placed, end_of, indented, bracket, joined}
+use Rattle.pyd_lex.specs.Lines.{Piece, Lines, Answer, ahead, shown, token_at, said, lines, laid, line_said, content, width, has_tab, all_lines, read, placed, end_of, lowered, indented, top, empty_at, bracket, joined}
 use Rattle.pyd_lex.specs.Scan.{run}
 
 pub ahead_nil : (a : Answer) → ahead [] a ≡ a
@@ -100,3 +101,17 @@ module _ (end : Place) where
 pub run_reads : (p : Place) (pieces : List Text) → run (end_of p pieces) (placed p pieces) (Margin 0 false) [] ≡ read p pieces
 unfolding read
 run_reads p pieces = next_line (end_of p pieces) (placed p pieces) [] (same (end_of p pieces) (placed p pieces))
+
+-- ---- widths, by the tests
+
+pub lowered_none : (w : ℕ) (p : Place) (next : List ℕ → Answer) (b : Bool) → (w == 0) ≡ b → lowered w p [] next ≡ (if b then next [] else Err (fault.BadDedent p.line))
+unfolding lowered
+lowered_none w p next b e = rw e refl
+
+pub lowered_some : (w v : ℕ) (p : Place) (vs : List ℕ) (next : List ℕ → Answer) (b c : Bool) → nat_lt w v ≡ b → (w == v) ≡ c → lowered w p (v ∷ vs) next ≡ (if b then ahead (empty_at kind.Dedent p ∷ []) (lowered w p vs next) else (if c then next (v ∷ vs) else Err (fault.BadDedent p.line)))
+unfolding lowered
+lowered_some w v p vs next b c e f = rw (e, f) refl
+
+pub indented_is : (w : ℕ) (p : Place) (ws : List ℕ) (next : List ℕ → Answer) (b : Bool) → nat_lt (top ws) w ≡ b → indented w p ws next ≡ (if b then ahead (empty_at kind.Indent p ∷ []) (next (w ∷ ws)) else lowered w p ws next)
+unfolding indented
+indented_is w p ws next b e = rw e refl

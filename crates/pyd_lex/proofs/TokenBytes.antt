@@ -29,9 +29,8 @@ use Rattle.pyd_lex.specs.Reads.{start, unmarked, is_marked}
 use Rattle.pyd_lex.specs.Texts.{spelling_of}
 use Rattle.pyd_lex.specs.Laws.{AreSpelled}
 use Rattle.pyd_lex.specs.TokenBytes.{IsWithin, AreInOrder, Spells, HasBytes, IsSpelled, IsEnd, HasText, AreEnded, is_indent, is_dedent, AreBalanced, TokenBytes, TokenTexts}
-use Rattle.pyd_lex.proofs.Lines.{run_reads}
+use Rattle.pyd_lex.proofs.Lines.{run_reads, lowered_none, lowered_some, indented_is}
 use Rattle.pyd_lex.proofs.Steps.{size_split, marked_size, chars_size}
-use Rattle.pyd_lex.proofs.First.{lowered_none, lowered_some, indented_is}
 use Rattle.pyd_lex.proofs.Spans.{spelled}
 
 -- ---- answers

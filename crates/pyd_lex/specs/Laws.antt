@@ -1,15 +1,14 @@
 -- laws of the tokens of bytes
-use Rattle.std.specs.Prelude.{◌≡◌, ℕ, ◌⊎◌, List, [], ◌∷◌, Ok, Err, ◌+◌}
+use Rattle.std.specs.Prelude.{◌≡◌, ◌↔◌, ℕ, List, [], ◌∷◌, Some, Ok, Err, ◌+◌, flat_map}
 use Rattle.std.specs.Str.{IsUtf8, chars}
-use Rattle.pyd_lex.specs.declared.fault.Flaw.{Flaw}
 use Rattle.pyd_lex.specs.declared.fault.LexFault.{LexFault}
-use Rattle.pyd_lex.specs.declared.fault.LexFault.TheVariants.{Tab, BadDedent}
 use Rattle.pyd_lex.specs.declared.place.Place.{Place}
 use Rattle.pyd_lex.specs.declared.token.Shape.{Shape}
 use Rattle.pyd_lex.specs.declared.token.Token.{Token}
 use Rattle.pyd_lex.specs.Words.{Text}
 use Rattle.pyd_lex.specs.Spelling.{IsCut}
-use Rattle.pyd_lex.specs.Lines.{Answer, Piece, after, fault_at, placed, read, size}
+use Rattle.pyd_lex.specs.Lines.{Answer, Piece, Line, after, all_lines, lines, placed, read, size}
+use Rattle.pyd_lex.specs.Faults.{first_fault}
 use Rattle.pyd_lex.specs.Reads.{Reads, start, unmarked}
 use Rattle.pyd_lex.specs.Texts.{spelling_of}
 
@@ -25,24 +24,24 @@ AnAnswer = (bytes : List ℕ) → (a : Answer) × Reads bytes a
 abbrev pub IsWell : Piece → Type 0
 IsWell p = (s : Shape) × (p.means ≡ Ok s)
 
--- the fault is at this piece: its own flaw, or that of the line that it begins
-abbrev pub IsAt : Piece → LexFault → Type 0
-IsAt p f = ((x : Flaw) × (p.means ≡ Err x) × (f ≡ fault_at x p.at)) ⊎ ((f ≡ Tab p.at.line) ⊎ (f ≡ BadDedent p.at.line))
-
--- the fault is at a piece before which all are well
-abbrev pub IsFirst : List Piece → LexFault → Type 0
-IsFirst [] f = ⊥
-IsFirst (p ∷ ps) f = IsAt p f ⊎ (IsWell p × IsFirst ps f)
-
 abbrev pub AreWell : List Piece → Type 0
 AreWell [] = Unit {0}
 AreWell (p ∷ ps) = IsWell p × AreWell ps
 
--- a fault comes at the end of the longest front part whose pieces are all well
-abbrev pub FirstFault : Type 0
-FirstFault = (p : Place) (pieces : List Text) (f : LexFault) → read p pieces ≡ Err f → IsFirst (placed p pieces) f
+-- the logical lines of a text's pieces
+abbrev pub lines_of : Place → List Text → List Line
+lines_of p pieces = all_lines (lines 0 (placed p pieces))
 
--- and tokens come only where all pieces are well
+-- the answer is a fault exactly where it is the first of the lines: the longest front part of the text
+-- in which lines are indented rightly and pieces are well ends there
+abbrev pub FirstFault : Type 0
+FirstFault = (p : Place) (pieces : List Text) (f : LexFault) → read p pieces ≡ Err f ↔ first_fault (0 ∷ []) (lines_of p pieces) ≡ Some f
+
+-- the lines are all pieces, in their order
+abbrev pub LinesWhole : Type 0
+LinesWhole = (p : Place) (pieces : List Text) → flat_map (λ l. l) (lines_of p pieces) ≡ placed p pieces
+
+-- tokens come only where all pieces are well
 abbrev pub AllWell : Type 0
 AllWell = (p : Place) (pieces : List Text) (ts : List Token) → read p pieces ≡ Ok ts → AreWell (placed p pieces)
 

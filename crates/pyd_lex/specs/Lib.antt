@@ -8,5 +8,6 @@ pub mod Lines
 pub mod Scan
 pub mod Reads
 pub mod Texts
+pub mod Faults
 pub mod Laws
 pub mod TokenBytes

@@ -1,6 +1,6 @@
 //! Laws of the relation between bytes and tokens, each proved by the contract of an empty function.
 
-ghost use Rattle.pyd_lex.specs.Laws.{OneAnswer, AnAnswer, FirstFault, AllWell, Spelled};
+ghost use Rattle.pyd_lex.specs.Laws.{OneAnswer, AnAnswer, FirstFault, LinesWhole, AllWell, Spelled};
 ghost use Rattle.pyd_lex.specs.TokenBytes.{TokenBytes, TokenTexts};
 
 /// Bytes have no two answers, so what `tokens` answers is the only one.
@@ -13,9 +13,16 @@ pub fn an_answer()
     ensures { AnAnswer }
 {}
 
-/// A fault comes at the end of the longest front part of the cut whose pieces are all good.
+/// A fault comes exactly at the end of the longest front part of the text that is good: its pieces
+/// have no flaw, and no logical line, unless blank, has a tab in its indentation (`Tab`) or a width
+/// that is no open line's (`BadDedent`).
 pub fn first_fault()
     ensures { FirstFault }
+{}
+
+/// The logical lines are all pieces of the cut, in their order.
+pub fn lines_whole()
+    ensures { LinesWhole }
 {}
 
 /// Tokens come only where all pieces of the cut are good.

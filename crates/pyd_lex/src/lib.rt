@@ -20,7 +20,9 @@ mod widths;
 mod word;
 
 pub use fault::{LexFault, LexStop};
-pub use laws::{all_well, an_answer, first_fault, one_answer, spelled, token_bytes, token_texts};
+pub use laws::{
+    all_well, an_answer, first_fault, lines_whole, one_answer, spelled, token_bytes, token_texts,
+};
 pub use mark::Mark;
 pub use scan::tokens;
 pub use text::text_of;

@@ -1,4 +1,4 @@
-use Rattle.pyd_lex.proofs.First.{all_well}
+use Rattle.pyd_lex.proofs.Faults.{all_well}
 use Rattle.pyd_lex.proofs.laws.all_well.Goals as goal
 
 pub returns : goal.returns
