@@ -12,9 +12,9 @@ use Rattle.pyd_lex.specs.declared.token.Token.{Token}
 use Rattle.pyd_lex.specs.declared.token.TokenKind.TheVariants as kind
 use Rattle.pyd_lex.specs.Words.{Text}
 use Rattle.pyd_lex.specs.Meaning.{Judged}
-use Rattle.pyd_lex.specs.Lines.{Piece, Line, Lines, Answer, ahead, lowered, indented, top, empty_at, token_at, shown, bracket, closing, closes_line, depth_after, joined, lines, all_lines, said, line_said, laid, content, width, has_tab, is_silent, placed, end_of, read}
+use Rattle.pyd_lex.specs.Lines.{Piece, Line, Lines, Answer, ahead, lowered, indented, top, empty_at, token_at, token_if, bracket, closing, closes_line, depth_after, joined, lines, all_lines, tokens_of_pieces, tokens_of_line, tokens_of_lines, content, width, has_tab, is_comment_or_end, placed, end_of, read}
 use Rattle.pyd_lex.specs.Faults.{may_stand, opened, indentation_fault, opened_by, flaw_fault, or_else, first_fault}
-use Rattle.pyd_lex.specs.Laws.{FirstFault, LinesWhole, AllWell, AreWell, IsWell}
+use Rattle.pyd_lex.specs.Laws.{FirstFault, LinesWhole, AllGood, AreGood, IsGoodPiece}
 use Rattle.pyd_lex.proofs.Lines.{ahead_ahead, lowered_none, lowered_some, indented_is}
 
 -- ---- the answer that a first fault wants
@@ -206,38 +206,38 @@ proper depth (p ∷ ps) =
 
 module _ (end : Place) where
   -- where no piece has a flaw, what comes later goes on
-  abbrev Said : Option LexFault → Answer → Answer → Type 0
-  Said (Some f) later a = a ≡ Err f
-  Said None later a = (ts : List Token) × (a ≡ ahead ts later)
+  abbrev PiecesAnswer : Option LexFault → Answer → Answer → Type 0
+  PiecesAnswer (Some f) later a = a ≡ Err f
+  PiecesAnswer None later a = (ts : List Token) × (a ≡ ahead ts later)
 
-  said_behind : (o : Option LexFault) (ts : List Token) (later a : Answer) → Said o later a → Said o later (ahead ts a)
-  said_behind (Some f) ts later a s = ap (ahead ts) s
-  said_behind None ts later a s = (ts ++ s.0, ap (ahead ts) s.1 ∙ ahead_ahead ts s.0 later)
+  pieces_behind : (o : Option LexFault) (ts : List Token) (later a : Answer) → PiecesAnswer o later a → PiecesAnswer o later (ahead ts a)
+  pieces_behind (Some f) ts later a s = ap (ahead ts) s
+  pieces_behind None ts later a s = (ts ++ s.0, ap (ahead ts) s.1 ∙ ahead_ahead ts s.0 later)
 
   abbrev Pieces : Line → Type 0
-  Pieces ps = (loud : Bool) (depth : ℕ) (later : Answer) → Proper depth ps → Said (flaw_fault ps) later (said end loud depth ps later)
+  Pieces ps = (has_tokens : Bool) (depth : ℕ) (later : Answer) → Proper depth ps → PiecesAnswer (flaw_fault ps) later (tokens_of_pieces end has_tokens depth ps later)
 
-  break_said : (p : Place) (to : ℕ) (ps : Line) → Pieces ps → (loud : Bool) (depth : ℕ) (later : Answer) (b : Bool) → (depth == 0) ≡ b → Proper depth (made (Ok Break) p to ∷ ps) → Said (flaw_fault ps) later (said end loud depth (made (Ok Break) p to ∷ ps) later)
-  unfolding said
-  break_said p to ps r loud depth later true e h =
+  break_pieces : (p : Place) (to : ℕ) (ps : Line) → Pieces ps → (has_tokens : Bool) (depth : ℕ) (later : Answer) (b : Bool) → (depth == 0) ≡ b → Proper depth (made (Ok Break) p to ∷ ps) → PiecesAnswer (flaw_fault ps) later (tokens_of_pieces end has_tokens depth (made (Ok Break) p to ∷ ps) later)
+  unfolding tokens_of_pieces
+  break_pieces p to ps r has_tokens depth later true e h =
       let k = h.0 e in
-      subst (λ x. Said (flaw_fault x) later (said end loud depth (made (Ok Break) p to ∷ x) later)) (sym k) (rw (e, said) (shown loud (token_at kind.Newline (made (Ok Break) p to)), refl))
-  break_said p to ps r loud depth later false e h = rw (e, said) (r loud depth later h.1)
+      subst (λ x. PiecesAnswer (flaw_fault x) later (tokens_of_pieces end has_tokens depth (made (Ok Break) p to ∷ x) later)) (sym k) (rw (e, tokens_of_pieces) (token_if has_tokens (token_at kind.Newline (made (Ok Break) p to)), refl))
+  break_pieces p to ps r has_tokens depth later false e h = rw (e, tokens_of_pieces) (r has_tokens depth later h.1)
 
-  piece_said : (j : Judged) (p : Place) (to : ℕ) (ps : Line) → Pieces ps → Pieces (made j p to ∷ ps)
-  unfolding said
-  piece_said (Err x) p to ps r loud depth later h = refl
-  piece_said (Ok Space) p to ps r loud depth later h = r loud depth later h.1
-  piece_said (Ok Tab) p to ps r loud depth later h = r loud depth later h.1
-  piece_said (Ok Comment) p to ps r loud depth later h = r loud depth later h.1
-  piece_said (Ok Break) p to ps r loud depth later h = break_said p to ps r loud depth later (depth == 0) refl h
-  piece_said (Ok (Spelled k)) p to ps r loud depth later h =
-      said_behind (flaw_fault ps) (shown loud (token_at k (made (Ok (Spelled k)) p to))) later (said end loud (bracket depth k) ps later) (r loud (bracket depth k) later h.1)
+  piece_tokens : (j : Judged) (p : Place) (to : ℕ) (ps : Line) → Pieces ps → Pieces (made j p to ∷ ps)
+  unfolding tokens_of_pieces
+  piece_tokens (Err x) p to ps r has_tokens depth later h = refl
+  piece_tokens (Ok Space) p to ps r has_tokens depth later h = r has_tokens depth later h.1
+  piece_tokens (Ok Tab) p to ps r has_tokens depth later h = r has_tokens depth later h.1
+  piece_tokens (Ok Comment) p to ps r has_tokens depth later h = r has_tokens depth later h.1
+  piece_tokens (Ok Break) p to ps r has_tokens depth later h = break_pieces p to ps r has_tokens depth later (depth == 0) refl h
+  piece_tokens (Ok (Spelled k)) p to ps r has_tokens depth later h =
+      pieces_behind (flaw_fault ps) (token_if has_tokens (token_at k (made (Ok (Spelled k)) p to))) later (tokens_of_pieces end has_tokens (bracket depth k) ps later) (r has_tokens (bracket depth k) later h.1)
 
   pieces : (ps : Line) → Pieces ps
-  unfolding said
-  pieces [] loud depth later h = (shown _ (empty_at kind.Newline end), refl)
-  pieces (p ∷ ps) loud depth later h = piece_said p.means p.at p.to ps (pieces ps) loud depth later h
+  unfolding tokens_of_pieces
+  pieces [] has_tokens depth later h = (token_if _ (empty_at kind.Newline end), refl)
+  pieces (p ∷ ps) has_tokens depth later h = piece_tokens p.means p.at p.to ps (pieces ps) has_tokens depth later h
 
   -- ---- white space at the start of a line has no flaw and ends none
 
@@ -260,26 +260,26 @@ module _ (end : Place) where
   -- ---- a line, and those after it
 
   abbrev Faults : List Line → Type 0
-  Faults ls = (ws : List ℕ) → Stacked ws → Verdict (first_fault (open_of ws) ls) (laid end ls ws)
+  Faults ls = (ws : List ℕ) → Stacked ws → Verdict (first_fault (open_of ws) ls) (tokens_of_lines end ls ws)
 
   -- what follows a line's pieces
-  then_later : (o later_o : Option LexFault) (later a : Answer) → Said o later a → Verdict later_o later → Verdict (or_else o later_o) a
+  then_later : (o later_o : Option LexFault) (later a : Answer) → PiecesAnswer o later a → Verdict later_o later → Verdict (or_else o later_o) a
   then_later (Some f) q later a s v = s
   then_later None q later a s v = subst (Verdict q) (sym s.1) (behind q s.0 later v)
 
   -- a line that isn't blank, by whether a tab and whether its width may stand
-  stands : (b : Bool) (p : Place) (ps : Line) (piece : Piece) (w : ℕ) (ws : List ℕ) (ls : List Line) → Faults ls → Pieces (piece ∷ ps) → Proper 0 (piece ∷ ps) → Lowered w p ws (λ vs. said end true 0 (piece ∷ ps) (laid end ls vs)) b (indented w p ws (λ vs. said end true 0 (piece ∷ ps) (laid end ls vs))) → Verdict (or_else (if b then None else Some (fault.BadDedent p.line)) (or_else (flaw_fault (piece ∷ ps)) (first_fault (opened w (open_of ws)) ls))) (indented w p ws (λ vs. said end true 0 (piece ∷ ps) (laid end ls vs)))
+  stands : (b : Bool) (p : Place) (ps : Line) (piece : Piece) (w : ℕ) (ws : List ℕ) (ls : List Line) → Faults ls → Pieces (piece ∷ ps) → Proper 0 (piece ∷ ps) → Lowered w p ws (λ vs. tokens_of_pieces end true 0 (piece ∷ ps) (tokens_of_lines end ls vs)) b (indented w p ws (λ vs. tokens_of_pieces end true 0 (piece ∷ ps) (tokens_of_lines end ls vs))) → Verdict (or_else (if b then None else Some (fault.BadDedent p.line)) (or_else (flaw_fault (piece ∷ ps)) (first_fault (opened w (open_of ws)) ls))) (indented w p ws (λ vs. tokens_of_pieces end true 0 (piece ∷ ps) (tokens_of_lines end ls vs)))
   stands true p ps piece w ws ls g s h l =
       let vs = l.stays in
-      let later = laid end ls vs in
+      let later = tokens_of_lines end ls vs in
       let v = subst (λ x. Verdict (first_fault x ls) later) l.same (g vs l.stacked) in
       let o = or_else (flaw_fault (piece ∷ ps)) (first_fault (opened w (open_of ws)) ls) in
-      subst (Verdict o) (sym l.is) (behind o l.before (said end true 0 (piece ∷ ps) later) (then_later (flaw_fault (piece ∷ ps)) (first_fault (opened w (open_of ws)) ls) later (said end true 0 (piece ∷ ps) later) (s true 0 later h) v))
+      subst (Verdict o) (sym l.is) (behind o l.before (tokens_of_pieces end true 0 (piece ∷ ps) later) (then_later (flaw_fault (piece ∷ ps)) (first_fault (opened w (open_of ws)) ls) later (tokens_of_pieces end true 0 (piece ∷ ps) later) (s true 0 later h) v))
   stands false p ps piece w ws ls g s h l = l
 
   -- a line's first fault, or that of the lines after it, by the line's content
   abbrev blank_content : Line → Bool
-  blank_content c = elim c [ [] ↦ true | p ∷ ps ↦ is_silent p.means ]
+  blank_content c = elim c [ [] ↦ true | p ∷ ps ↦ is_comment_or_end p.means ]
 
   abbrev number_of : Line → ℕ
   number_of c = elim c [ [] ↦ 0 | p ∷ ps ↦ p.at.line ]
@@ -289,25 +289,25 @@ module _ (end : Place) where
       or_else (if blank_content c then None else (if tab then Some (fault.Tab (number_of c)) else (if may_stand w open_widths then None else Some (fault.BadDedent (number_of c)))))
       (or_else o (first_fault (if blank_content c then open_widths else opened w open_widths) ls))
 
-  by_content : (silent tab : Bool) (p : Piece) (ps : Line) (w : ℕ) (ws : List ℕ) (ls : List Line) → is_silent p.means ≡ silent → Faults ls → Stacked ws → Proper 0 (p ∷ ps) → Verdict (step (p ∷ ps) w tab (open_of ws) (flaw_fault (p ∷ ps)) ls) (line_said end (p ∷ ps) w tab ws (laid end ls))
-  unfolding line_said
+  by_content : (silent tab : Bool) (p : Piece) (ps : Line) (w : ℕ) (ws : List ℕ) (ls : List Line) → is_comment_or_end p.means ≡ silent → Faults ls → Stacked ws → Proper 0 (p ∷ ps) → Verdict (step (p ∷ ps) w tab (open_of ws) (flaw_fault (p ∷ ps)) ls) (tokens_of_line end (p ∷ ps) w tab ws (tokens_of_lines end ls))
+  unfolding tokens_of_line
   by_content true tab p ps w ws ls e g s h =
-      rw (e, line_said) (then_later (flaw_fault (p ∷ ps)) (first_fault (open_of ws) ls) (laid end ls ws) (said end false 0 (p ∷ ps) (laid end ls ws)) (pieces (p ∷ ps) false 0 (laid end ls ws) h) (g ws s))
-  by_content false true p ps w ws ls e g s h = rw (e, line_said) refl
+      rw (e, tokens_of_line) (then_later (flaw_fault (p ∷ ps)) (first_fault (open_of ws) ls) (tokens_of_lines end ls ws) (tokens_of_pieces end false 0 (p ∷ ps) (tokens_of_lines end ls ws)) (pieces (p ∷ ps) false 0 (tokens_of_lines end ls ws) h) (g ws s))
+  by_content false true p ps w ws ls e g s h = rw (e, tokens_of_line) refl
   by_content false false p ps w ws ls e g s h =
-      rw (e, line_said) (stands (may_stand w (open_of ws)) p.at ps p w ws ls g (pieces (p ∷ ps)) h (begins w p.at ws (λ vs. said end true 0 (p ∷ ps) (laid end ls vs)) s))
+      rw (e, tokens_of_line) (stands (may_stand w (open_of ws)) p.at ps p w ws ls g (pieces (p ∷ ps)) h (begins w p.at ws (λ vs. tokens_of_pieces end true 0 (p ∷ ps) (tokens_of_lines end ls vs)) s))
 
-  whole_line : (c : Line) (w : ℕ) (tab : Bool) (ws : List ℕ) (ls : List Line) → Faults ls → Stacked ws → Proper 0 c → Verdict (step c w tab (open_of ws) (flaw_fault c) ls) (line_said end c w tab ws (laid end ls))
-  unfolding line_said
+  whole_line : (c : Line) (w : ℕ) (tab : Bool) (ws : List ℕ) (ls : List Line) → Faults ls → Stacked ws → Proper 0 c → Verdict (step c w tab (open_of ws) (flaw_fault c) ls) (tokens_of_line end c w tab ws (tokens_of_lines end ls))
+  unfolding tokens_of_line
   whole_line [] w tab ws ls g s h = g ws s
-  whole_line (p ∷ ps) w tab ws ls g s h = by_content (is_silent p.means) tab p ps w ws ls refl g s h
+  whole_line (p ∷ ps) w tab ws ls g s h = by_content (is_comment_or_end p.means) tab p ps w ws ls refl g s h
 
   faults : (ls : List Line) → AreProper ls → Faults ls
-  unfolding laid
+  unfolding tokens_of_lines
   faults [] h ws s = (closing end ws, refl)
   faults (l ∷ ls) h ws s =
       let c = content_of l in
-      subst (λ o. Verdict (step (content l) (width l) (has_tab l) (open_of ws) o ls) (line_said end (content l) (width l) (has_tab l) ws (laid end ls))) c.flaw
+      subst (λ o. Verdict (step (content l) (width l) (has_tab l) (open_of ws) o ls) (tokens_of_line end (content l) (width l) (has_tab l) ws (tokens_of_lines end ls))) c.flaw
       (whole_line (content l) (width l) (has_tab l) ws ls (faults ls h.1) s (c.proper h.0))
 
 first_of : Place → List Text → Option LexFault
@@ -354,27 +354,27 @@ none_then : (o q : Option LexFault) → or_else o q ≡ None → q ≡ None
 none_then (Some f) q e = absurd cc
 none_then None q e = e
 
-well_piece : (j : Judged) (p : Place) (to : ℕ) (ps : Line) → flaw_fault (made j p to ∷ ps) ≡ None → IsWell (made j p to) × (flaw_fault ps ≡ None)
-well_piece (Err x) p to ps e = absurd cc
-well_piece (Ok s) p to ps e = ((s, refl), e)
+good_piece : (j : Judged) (p : Place) (to : ℕ) (ps : Line) → flaw_fault (made j p to ∷ ps) ≡ None → IsGoodPiece (made j p to) × (flaw_fault ps ≡ None)
+good_piece (Err x) p to ps e = absurd cc
+good_piece (Ok s) p to ps e = ((s, refl), e)
 
-well_line : (l : Line) (rest : List Piece) → flaw_fault l ≡ None → AreWell rest → AreWell (l ++ rest)
-well_line [] rest e w = w
-well_line (p ∷ ps) rest e w =
-    let h = well_piece p.means p.at p.to ps e in (h.0, well_line ps rest h.1 w)
+good_line : (l : Line) (rest : List Piece) → flaw_fault l ≡ None → AreGood rest → AreGood (l ++ rest)
+good_line [] rest e w = w
+good_line (p ∷ ps) rest e w =
+    let h = good_piece p.means p.at p.to ps e in (h.0, good_line ps rest h.1 w)
 
-well_lines : (open_widths : List ℕ) (ls : List Line) → first_fault open_widths ls ≡ None → AreWell (flat_map (λ l. l) ls)
-well_lines open_widths [] e = tt
-well_lines open_widths (l ∷ ls) e =
+good_lines : (open_widths : List ℕ) (ls : List Line) → first_fault open_widths ls ≡ None → AreGood (flat_map (λ l. l) ls)
+good_lines open_widths [] e = tt
+good_lines open_widths (l ∷ ls) e =
     let later = first_fault (opened_by l open_widths) ls in
     let h = none_then (indentation_fault open_widths l) (or_else (flaw_fault l) later) e in
-    subst AreWell (sym (flat_map-cons (λ l. l) l ls)) (well_line l (flat_map (λ l. l) ls) (none_first (flaw_fault l) later h) (well_lines (opened_by l open_widths) ls (none_then (flaw_fault l) later h)))
+    subst AreGood (sym (flat_map-cons (λ l. l) l ls)) (good_line l (flat_map (λ l. l) ls) (none_first (flaw_fault l) later h) (good_lines (opened_by l open_widths) ls (none_then (flaw_fault l) later h)))
 
 verdict_ok : (o : Option LexFault) (a : Answer) (ts : List Token) → Verdict o a → a ≡ Ok ts → o ≡ None
 verdict_ok (Some f) a ts v e = absurd (let k : Err f ≡ Ok ts = sym v ∙ e in cc)
 verdict_ok None a ts v e = refl
 
-pub all_well : AllWell
+pub all_good : AllGood
 unfolding first_of
-all_well p zs ts e =
-    subst AreWell (lines_whole p zs) (well_lines (0 ∷ []) (all_lines (lines 0 (placed p zs))) (verdict_ok (first_of p zs) (read p zs) ts (read_faults p zs) e))
+all_good p zs ts e =
+    subst AreGood (lines_whole p zs) (good_lines (0 ∷ []) (all_lines (lines 0 (placed p zs))) (verdict_ok (first_of p zs) (read p zs) ts (read_faults p zs) e))

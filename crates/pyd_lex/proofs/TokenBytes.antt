@@ -8,7 +8,7 @@ use Rattle.pyd_lex.specs.declared.fault.Flaw.TheVariants.{BadNumber}
 use Rattle.pyd_lex.specs.declared.fault.LexFault.TheVariants as fault
 use Rattle.pyd_lex.specs.declared.mark.Mark.{Mark}
 use Rattle.pyd_lex.specs.declared.mode.Mode.{Mode}
-use Rattle.pyd_lex.specs.declared.mode.Mode.TheVariants.{Margin, Inside}
+use Rattle.pyd_lex.specs.declared.mode.Mode.TheVariants.{Indentation, Inside}
 use Rattle.pyd_lex.specs.declared.place.Place.{Place}
 use Rattle.pyd_lex.specs.declared.run.Class.{Class}
 use Rattle.pyd_lex.specs.declared.run.Class.TheVariants.{Return, Hash, Quote, Digit, Letter, Other}
@@ -22,15 +22,15 @@ use Rattle.pyd_lex.specs.Words.{Text, keyword, mark_of}
 use Rattle.pyd_lex.specs.Strings.{string_flaw}
 use Rattle.pyd_lex.specs.Numbers.{number, is_digits, radix, digits, amount, narrow, is_led, sized}
 use Rattle.pyd_lex.specs.Spelling.{is_piece, class_of, IsCut}
-use Rattle.pyd_lex.specs.Meaning.{Judged, meaning, judged, as_token, ended, name, in_nfkc, known, blank_or, marked}
-use Rattle.pyd_lex.specs.Lines.{Piece, Answer, ahead, lowered, indented, top, empty_at, token_at, shown, bracket, closing, placed, end_of, size, after}
+use Rattle.pyd_lex.specs.Meaning.{Judged, meaning, judged, as_token, ended, name, in_nfkc, known, spacing_or, marked}
+use Rattle.pyd_lex.specs.Lines.{Piece, Answer, ahead, lowered, indented, top, empty_at, token_at, token_if, bracket, closing, placed, end_of, size, after}
 use Rattle.pyd_lex.specs.Scan.{run, started}
-use Rattle.pyd_lex.specs.Reads.{start, unmarked, is_marked}
+use Rattle.pyd_lex.specs.Reads.{start, without_bom, has_bom}
 use Rattle.pyd_lex.specs.Texts.{spelling_of}
 use Rattle.pyd_lex.specs.Laws.{AreSpelled}
 use Rattle.pyd_lex.specs.TokenBytes.{IsWithin, AreInOrder, Spells, HasBytes, IsSpelled, IsEnd, HasText, AreEnded, is_indent, is_dedent, AreBalanced, TokenBytes, TokenTexts}
 use Rattle.pyd_lex.proofs.Lines.{run_reads, lowered_none, lowered_some, indented_is}
-use Rattle.pyd_lex.proofs.Steps.{size_split, marked_size, chars_size}
+use Rattle.pyd_lex.proofs.Steps.{size_split, bom_size, chars_size}
 use Rattle.pyd_lex.proofs.Spans.{spelled}
 
 -- ---- answers
@@ -108,11 +108,11 @@ marked_text : (z : Text) (m : Option Mark) (k : TokenKind) → mark_of z ≡ m �
 marked_text z None k f e = cc
 marked_text z (Some m) k f e = let h : kind.Mark m ≡ k = cc in subst (λ x. HasText x z) h f
 
-blank_text : (z : Text) (b d f : Bool) (k : TokenKind) → blank_or (if b then Some Space else (if d then Some Tab else (if f then Some Break else None))) (mark_of z) ≡ Ok (Spelled k) → HasText k z
-blank_text z true d f k e = cc
-blank_text z false true f k e = cc
-blank_text z false false true k e = cc
-blank_text z false false false k e = marked_text z (mark_of z) k refl e
+spacing_text : (z : Text) (b d f : Bool) (k : TokenKind) → spacing_or (if b then Some Space else (if d then Some Tab else (if f then Some Break else None))) (mark_of z) ≡ Ok (Spelled k) → HasText k z
+spacing_text z true d f k e = cc
+spacing_text z false true f k e = cc
+spacing_text z false false true k e = cc
+spacing_text z false false false k e = marked_text z (mark_of z) k refl e
 
 judged_text : (t : Class) (c : ℕ) (z : Text) (k : TokenKind) → class_of c ≡ t → judged t c z ≡ Ok (Spelled k) → HasText k (c ∷ z)
 unfolding judged
@@ -121,7 +121,7 @@ judged_text Hash c z k t e = cc
 judged_text Quote c z k t e = string_text c z (string_flaw c z) k t refl (shape_is k (ended (string_flaw c z)) e)
 judged_text Digit c z k t e = number_text (c ∷ z) k (shape_is k (number (c ∷ z)) e)
 judged_text Letter c z k t e = name_text c z k t (shape_is k (name (c ∷ z)) e)
-judged_text Other c z k t e = blank_text (c ∷ z) (c == 32) (c == 9) (c == 10) k e
+judged_text Other c z k t e = spacing_text (c ∷ z) (c == 32) (c == 9) (c == 10) k e
 
 pub token_texts : TokenTexts
 unfolding meaning
@@ -356,9 +356,9 @@ module _ (bytes : List ℕ) where
   }
 
   -- what is shown where the line has tokens
-  shows : (loud : Bool) (d : ℕ) (t : Token) (a : Answer) (ts : List Token) → Stands t.from d d t → ((us : List Token) → a ≡ Ok us → Follows t.to d us) → ahead (shown loud t) a ≡ Ok ts → Follows t.from d ts
-  shows true d t a ts s g h = behind t.from d d t a ts s g h
-  shows false d t a ts s g h =
+  pushes : (has_tokens : Bool) (d : ℕ) (t : Token) (a : Answer) (ts : List Token) → Stands t.from d d t → ((us : List Token) → a ≡ Ok us → Follows t.to d us) → ahead (token_if has_tokens t) a ≡ Ok ts → Follows t.from d ts
+  pushes true d t a ts s g h = behind t.from d d t a ts s g h
+  pushes false d t a ts s g h =
       let k = ahead_is [] ts a h in
       let w = s.within in
       subst (Follows t.from d) (sym k.2) (from_before t.from t.to d k.0 w.forward (g k.0 k.1))
@@ -404,37 +404,37 @@ module _ (bytes : List ℕ) where
 
     good_none : Good []
     unfolding run
-    good_none at (Margin w tab) ws ts c h =
+    good_none at (Indentation w tab) ws ts c h =
         let k = ahead_is [] ts (Ok (closing end ws)) h in
         from_before at end.at (length ws) ts (omega arith) (subst (Follows end.at (length ws)) (sym k.2) (closes_all ws k.0 k.1))
-    good_none at (Inside depth loud) ws ts c h =
-        from_before at end.at (length ws) ts (omega arith) (shows _ (length ws) (empty_at kind.Newline end) (Ok (closing end ws)) ts (last_newline (length ws)) (closes_all ws) h)
+    good_none at (Inside depth has_tokens) ws ts c h =
+        from_before at end.at (length ws) ts (omega arith) (pushes _ (length ws) (empty_at kind.Newline end) (Ok (closing end ws)) ts (last_newline (length ws)) (closes_all ws) h)
 
-    break_good : (p : Place) (to : ℕ) (ps : List Piece) → Good ps → Fits (made (Ok Break) p to) → Chained to ps → (depth : ℕ) (loud : Bool) (ws : List ℕ) (ts : List Token) (b : Bool) → (depth == 0) ≡ b → run end (made (Ok Break) p to ∷ ps) (Inside depth loud) ws ≡ Ok ts → Follows p.at (length ws) ts
+    break_good : (p : Place) (to : ℕ) (ps : List Piece) → Good ps → Fits (made (Ok Break) p to) → Chained to ps → (depth : ℕ) (has_tokens : Bool) (ws : List ℕ) (ts : List Token) (b : Bool) → (depth == 0) ≡ b → run end (made (Ok Break) p to ∷ ps) (Inside depth has_tokens) ws ≡ Ok ts → Follows p.at (length ws) ts
     unfolding run
-    break_good p to ps r f c depth loud ws ts true e h =
-        shows loud (length ws) (token_at kind.Newline (made (Ok Break) p to)) (run end ps (Margin 0 false) ws) ts (newline_stands p to (length ws) f) (λ us. r to (Margin 0 false) ws us c) (let k = rw (e, run) at h in k)
-    break_good p to ps r f c depth loud ws ts false e h =
-        from_before p.at to (length ws) ts f.forward (r to (Inside depth loud) ws ts c (let k = rw (e, run) at h in k))
+    break_good p to ps r f c depth has_tokens ws ts true e h =
+        pushes has_tokens (length ws) (token_at kind.Newline (made (Ok Break) p to)) (run end ps (Indentation 0 false) ws) ts (newline_stands p to (length ws) f) (λ us. r to (Indentation 0 false) ws us c) (let k = rw (e, run) at h in k)
+    break_good p to ps r f c depth has_tokens ws ts false e h =
+        from_before p.at to (length ws) ts f.forward (r to (Inside depth has_tokens) ws ts c (let k = rw (e, run) at h in k))
 
     step_good : (j : Judged) (p : Place) (to : ℕ) (ps : List Piece) → Good ps → Fits (made j p to) → Chained to ps → (m : Mode) (ws : List ℕ) (ts : List Token) → run end (made j p to ∷ ps) m ws ≡ Ok ts → Follows p.at (length ws) ts
     unfolding run
-    step_good (Err x) p to ps r f c (Margin w tab) ws ts h =
+    step_good (Err x) p to ps r f c (Indentation w tab) ws ts h =
         begun p (let l = f.forward in let i = f.inside in omega arith) tab w ws (λ vs. Err _) (λ vs us e. absurd cc) ts h
-    step_good (Err x) p to ps r f c (Inside depth loud) ws ts h = absurd cc
-    step_good (Ok Space) p to ps r f c (Margin w tab) ws ts h = from_before p.at to (length ws) ts f.forward (r to (Margin (w + 1) tab) ws ts c h)
-    step_good (Ok Tab) p to ps r f c (Margin w tab) ws ts h = from_before p.at to (length ws) ts f.forward (r to (Margin (w + 1) true) ws ts c h)
-    step_good (Ok Comment) p to ps r f c (Margin w tab) ws ts h = from_before p.at to (length ws) ts f.forward (r to (Inside 0 false) ws ts c h)
-    step_good (Ok Break) p to ps r f c (Margin w tab) ws ts h = from_before p.at to (length ws) ts f.forward (r to (Margin 0 false) ws ts c h)
-    step_good (Ok (Spelled k)) p to ps r f c (Margin w tab) ws ts h =
+    step_good (Err x) p to ps r f c (Inside depth has_tokens) ws ts h = absurd cc
+    step_good (Ok Space) p to ps r f c (Indentation w tab) ws ts h = from_before p.at to (length ws) ts f.forward (r to (Indentation (w + 1) tab) ws ts c h)
+    step_good (Ok Tab) p to ps r f c (Indentation w tab) ws ts h = from_before p.at to (length ws) ts f.forward (r to (Indentation (w + 1) true) ws ts c h)
+    step_good (Ok Comment) p to ps r f c (Indentation w tab) ws ts h = from_before p.at to (length ws) ts f.forward (r to (Inside 0 false) ws ts c h)
+    step_good (Ok Break) p to ps r f c (Indentation w tab) ws ts h = from_before p.at to (length ws) ts f.forward (r to (Indentation 0 false) ws ts c h)
+    step_good (Ok (Spelled k)) p to ps r f c (Indentation w tab) ws ts h =
         begun p (let l = f.forward in let i = f.inside in omega arith) tab w ws (λ vs. ahead (token_at k (made (Ok (Spelled k)) p to) ∷ []) (run end ps (Inside (bracket 0 k) true) vs))
         (λ vs us e. behind p.at (length vs) (length vs) (token_at k (made (Ok (Spelled k)) p to)) (run end ps (Inside (bracket 0 k) true) vs) us (token_stands k p to (length vs) f) (λ xs. r to (Inside (bracket 0 k) true) vs xs c) e) ts h
-    step_good (Ok Space) p to ps r f c (Inside depth loud) ws ts h = from_before p.at to (length ws) ts f.forward (r to (Inside depth loud) ws ts c h)
-    step_good (Ok Tab) p to ps r f c (Inside depth loud) ws ts h = from_before p.at to (length ws) ts f.forward (r to (Inside depth loud) ws ts c h)
-    step_good (Ok Comment) p to ps r f c (Inside depth loud) ws ts h = from_before p.at to (length ws) ts f.forward (r to (Inside depth loud) ws ts c h)
-    step_good (Ok Break) p to ps r f c (Inside depth loud) ws ts h = break_good p to ps r f c depth loud ws ts (depth == 0) refl h
-    step_good (Ok (Spelled k)) p to ps r f c (Inside depth loud) ws ts h =
-        shows loud (length ws) (token_at k (made (Ok (Spelled k)) p to)) (run end ps (Inside (bracket depth k) loud) ws) ts (token_stands k p to (length ws) f) (λ us. r to (Inside (bracket depth k) loud) ws us c) h
+    step_good (Ok Space) p to ps r f c (Inside depth has_tokens) ws ts h = from_before p.at to (length ws) ts f.forward (r to (Inside depth has_tokens) ws ts c h)
+    step_good (Ok Tab) p to ps r f c (Inside depth has_tokens) ws ts h = from_before p.at to (length ws) ts f.forward (r to (Inside depth has_tokens) ws ts c h)
+    step_good (Ok Comment) p to ps r f c (Inside depth has_tokens) ws ts h = from_before p.at to (length ws) ts f.forward (r to (Inside depth has_tokens) ws ts c h)
+    step_good (Ok Break) p to ps r f c (Inside depth has_tokens) ws ts h = break_good p to ps r f c depth has_tokens ws ts (depth == 0) refl h
+    step_good (Ok (Spelled k)) p to ps r f c (Inside depth has_tokens) ws ts h =
+        pushes has_tokens (length ws) (token_at k (made (Ok (Spelled k)) p to)) (run end ps (Inside (bracket depth k) has_tokens) ws) ts (token_stands k p to (length ws) f) (λ us. r to (Inside (bracket depth k) has_tokens) ws us c) h
 
     good : (ps : List Piece) → Good ps
     good [] at m ws ts c h = good_none at m ws ts c h
@@ -466,19 +466,19 @@ module _ (bytes : List ℕ) where
   all_read p text [] e c = let k = ap size c in omega arith
   all_read p text (z ∷ zs) e c = all_read (after p z) (drop (length z) text) zs (piece_inside p.at text z e c.0) c.2
 
-  begins_all : (text : Text) (b : Bool) → is_marked text ≡ b → size text ≡ length bytes → (start text).at + size (unmarked text) ≡ length bytes
-  begins_all text true m e = let s = marked_size text m in rw m (omega arith)
+  begins_all : (text : Text) (b : Bool) → has_bom text ≡ b → size text ≡ length bytes → (start text).at + size (without_bom text) ≡ length bytes
+  begins_all text true m e = let s = bom_size text m in rw m (omega arith)
   begins_all text false m e = rw m (omega arith)
 
 pub token_bytes : TokenBytes
 token_bytes bytes ts (inl x) = absurd (let e = x.1 in cc)
 token_bytes bytes ts (inr x) =
     let text = chars bytes in
-    let says = x.1 in
-    let pieces = says.0 in
+    let reads = x.1 in
+    let pieces = reads.0 in
     let p = start text in
-    let all = begins_all bytes text (is_marked text) refl (chars_size bytes x.0) in
-    let f = good bytes (end_of p pieces) (all_read bytes p (unmarked text) pieces all says.1) (placed p pieces) p.at (Margin 0 false) [] ts (chained bytes p (unmarked text) pieces all says.1 (spelled bytes pieces x.0 says.1)) (run_reads p pieces ∙ says.2) in
+    let all = begins_all bytes text (has_bom text) refl (chars_size bytes x.0) in
+    let f = good bytes (end_of p pieces) (all_read bytes p (without_bom text) pieces all reads.1) (placed p pieces) p.at (Indentation 0 false) [] ts (chained bytes p (without_bom text) pieces all reads.1 (spelled bytes pieces x.0 reads.1)) (run_reads p pieces ∙ reads.2) in
     record {
       within = f.within;
       ordered = order_from 0 p.at ts (omega arith) f.ordered;

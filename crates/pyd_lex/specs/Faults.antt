@@ -3,7 +3,7 @@ use Rattle.std.specs.Prelude.{ℕ, Bool, true, ◌||◌, ◌==◌, nat_lt, List,
 use Rattle.std.specs.List.{list_all, list_any}
 use Rattle.pyd_lex.specs.declared.fault.LexFault.{LexFault}
 use Rattle.pyd_lex.specs.declared.fault.LexFault.TheVariants as fault
-use Rattle.pyd_lex.specs.Lines.{Line, content, width, has_tab, is_silent, fault_at}
+use Rattle.pyd_lex.specs.Lines.{Line, content, width, has_tab, is_comment_or_end, fault_at}
 
 -- a line of width w may stand here: it is as wide as an open one, or wider than all
 abbrev pub may_stand : ℕ → List ℕ → Bool
@@ -15,7 +15,7 @@ opened w open_widths = w ∷ filter (λ v. nat_lt v w) open_widths
 
 -- a line of white space alone, or with a comment
 abbrev pub is_blank_line : Line → Bool
-is_blank_line l = elim (content l) [ [] ↦ true | p ∷ ps ↦ is_silent p.means ]
+is_blank_line l = elim (content l) [ [] ↦ true | p ∷ ps ↦ is_comment_or_end p.means ]
 
 -- the number of the line in which a logical line's first piece is that isn't white space
 abbrev pub line_number : Line → ℕ

@@ -9,7 +9,7 @@ use Rattle.pyd_lex.specs.Words.{Text}
 use Rattle.pyd_lex.specs.Spelling.{IsCut}
 use Rattle.pyd_lex.specs.Lines.{Answer, Piece, Line, after, all_lines, lines, placed, read, size}
 use Rattle.pyd_lex.specs.Faults.{first_fault}
-use Rattle.pyd_lex.specs.Reads.{Reads, start, unmarked}
+use Rattle.pyd_lex.specs.Reads.{Reads, start, without_bom}
 use Rattle.pyd_lex.specs.Texts.{spelling_of}
 
 -- bytes have no two answers
@@ -20,20 +20,20 @@ OneAnswer = (bytes : List ℕ) (a b : Answer) → Reads bytes a → Reads bytes 
 abbrev pub AnAnswer : Type 0
 AnAnswer = (bytes : List ℕ) → (a : Answer) × Reads bytes a
 
--- the piece has a good meaning
-abbrev pub IsWell : Piece → Type 0
-IsWell p = (s : Shape) × (p.means ≡ Ok s)
+-- the piece has a meaning
+abbrev pub IsGoodPiece : Piece → Type 0
+IsGoodPiece p = (s : Shape) × (p.means ≡ Ok s)
 
-abbrev pub AreWell : List Piece → Type 0
-AreWell [] = Unit {0}
-AreWell (p ∷ ps) = IsWell p × AreWell ps
+abbrev pub AreGood : List Piece → Type 0
+AreGood [] = Unit {0}
+AreGood (p ∷ ps) = IsGoodPiece p × AreGood ps
 
 -- the logical lines of a text's pieces
 abbrev pub lines_of : Place → List Text → List Line
 lines_of p pieces = all_lines (lines 0 (placed p pieces))
 
 -- the answer is a fault exactly where it is the first of the lines: the longest front part of the text
--- in which lines are indented rightly and pieces are well ends there
+-- whose lines are indented rightly and whose pieces are good ends there
 abbrev pub FirstFault : Type 0
 FirstFault = (p : Place) (pieces : List Text) (f : LexFault) → read p pieces ≡ Err f ↔ first_fault (0 ∷ []) (lines_of p pieces) ≡ Some f
 
@@ -41,9 +41,9 @@ FirstFault = (p : Place) (pieces : List Text) (f : LexFault) → read p pieces �
 abbrev pub LinesWhole : Type 0
 LinesWhole = (p : Place) (pieces : List Text) → flat_map (λ l. l) (lines_of p pieces) ≡ placed p pieces
 
--- tokens come only where all pieces are well
-abbrev pub AllWell : Type 0
-AllWell = (p : Place) (pieces : List Text) (ts : List Token) → read p pieces ≡ Ok ts → AreWell (placed p pieces)
+-- tokens come only where all pieces are good
+abbrev pub AllGood : Type 0
+AllGood = (p : Place) (pieces : List Text) (ts : List Token) → read p pieces ≡ Ok ts → AreGood (placed p pieces)
 
 -- the bytes of each piece are the piece, in UTF-8
 abbrev pub AreSpelled : List ℕ → Place → List Text → Type 0
@@ -54,4 +54,4 @@ AreSpelled bytes p (z ∷ zs) =
 -- so the text of a string token of these bytes is the value of its piece
 abbrev pub Spelled : Type 0
 Spelled =
-    (bytes : List ℕ) (pieces : List Text) → IsUtf8 bytes → IsCut (unmarked (chars bytes)) pieces → AreSpelled bytes (start (chars bytes)) pieces
+    (bytes : List ℕ) (pieces : List Text) → IsUtf8 bytes → IsCut (without_bom (chars bytes)) pieces → AreSpelled bytes (start (chars bytes)) pieces

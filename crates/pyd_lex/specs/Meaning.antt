@@ -44,19 +44,19 @@ abbrev pub marked : Option Mark → Judged
 marked None = Err BadChar
 marked (Some m) = Ok (shape.Token (kind.Mark m))
 
-abbrev pub blank : ℕ → Option Shape
-blank c =
+abbrev pub spacing : ℕ → Option Shape
+spacing c =
     if c == 32 then Some shape.Space
     else (if c == 9 then Some shape.Tab
     else (if c == 10 then Some shape.Break
     else None))
 
-abbrev pub blank_or : Option Shape → Option Mark → Judged
-blank_or (Some s) m = Ok s
-blank_or None m = marked m
+abbrev pub spacing_or : Option Shape → Option Mark → Judged
+spacing_or (Some s) m = Ok s
+spacing_or None m = marked m
 
 abbrev pub other : ℕ → Option Mark → Judged
-other c m = blank_or (blank c) m
+other c m = spacing_or (spacing c) m
 
 -- what a piece with this first character means
 unfoldable pub judged : Class → ℕ → Text → Judged

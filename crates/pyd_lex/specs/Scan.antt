@@ -9,7 +9,7 @@ use Rattle.pyd_lex.specs.declared.place.Place.{Place}
 use Rattle.pyd_lex.specs.declared.run.Class.{Class}
 use Rattle.pyd_lex.specs.declared.fault.LexStop.{LexStop}
 use Rattle.pyd_lex.specs.declared.mode.Mode.{Mode}
-use Rattle.pyd_lex.specs.declared.mode.Mode.TheVariants.{Margin, Inside}
+use Rattle.pyd_lex.specs.declared.mode.Mode.TheVariants.{Indentation, Inside}
 use Rattle.pyd_lex.specs.declared.scanner.Scanner.{Scanner}
 use Rattle.pyd_lex.specs.declared.token.Shape.{Shape}
 use Rattle.pyd_lex.specs.declared.token.Shape.TheVariants.{Space, Tab, Comment, Break, Token as Spelled}
@@ -20,7 +20,7 @@ use Rattle.pyd_lex.specs.Reads.{IfFault}
 use Rattle.pyd_lex.specs.Words.{Text}
 use Rattle.pyd_lex.specs.Spelling.{class_of, IsLongest, IsCut}
 use Rattle.pyd_lex.specs.Meaning.{meaning}
-use Rattle.pyd_lex.specs.Lines.{Piece, Answer, placed, end_of, ahead, empty_at, token_at, fault_at, shown, bracket, indented, closing}
+use Rattle.pyd_lex.specs.Lines.{Piece, Answer, placed, end_of, ahead, empty_at, token_at, fault_at, token_if, bracket, indented, closing}
 
 -- where the flaw is one, and not want of memory
 abbrev pub IfFlaw : Stop → (Flaw → Type 0) → Type 0
@@ -49,21 +49,21 @@ HasClass k (c ∷ z) = class_of c ≡ k
 
 -- the number that a mode counts
 abbrev pub count : Mode → ℕ
-count (Margin width tab) = width
-count (Inside depth loud) = depth
+count (Indentation width tab) = width
+count (Inside depth has_tokens) = depth
 
 -- the mode after a piece in the margin that is no token
-abbrev pub margin_after : ℕ → Bool → Shape → Mode
-margin_after width tab Space = Margin (width + 1) tab
-margin_after width tab Tab = Margin (width + 1) true
-margin_after width tab Comment = Inside 0 false
-margin_after width tab Break = Margin 0 false
-margin_after width tab (Spelled k) = Margin width tab
+abbrev pub indentation_after : ℕ → Bool → Shape → Mode
+indentation_after width tab Space = Indentation (width + 1) tab
+indentation_after width tab Tab = Indentation (width + 1) true
+indentation_after width tab Comment = Inside 0 false
+indentation_after width tab Break = Indentation 0 false
+indentation_after width tab (Spelled k) = Indentation width tab
 
 -- the end of a line that the text's end leaves unfinished
 abbrev pub unfinished : Mode → Place → List Token
-unfinished (Margin width tab) end = []
-unfinished (Inside depth loud) end = shown (loud && (depth == 0)) (empty_at kind.Newline end)
+unfinished (Indentation width tab) end = []
+unfinished (Inside depth has_tokens) end = token_if (has_tokens && (depth == 0)) (empty_at kind.Newline end)
 
 -- a line that begins here with this width, where no tab is before it
 abbrev pub started : Bool → ℕ → Place → List ℕ → (List ℕ → Answer) → Answer
@@ -73,29 +73,29 @@ started false w p ws next = indented w p ws next
 -- what the pieces say from this mode and these widths on
 unfoldable pub run : Place → List Piece → Mode → List ℕ → Answer
 run end [] mode ws = ahead (unfinished mode end) (Ok (closing end ws))
-run end (p ∷ ps) (Margin width tab) ws =
+run end (p ∷ ps) (Indentation width tab) ws =
     elim (p.means) [
       | Err f ↦ started tab width p.at ws (λ vs. Err (fault_at f p.at))
       | Ok s ↦ elim s [
         | Spelled k ↦ started tab width p.at ws (λ vs. ahead (token_at k p ∷ []) (run end ps (Inside (bracket 0 k) true) vs))
-        | Break ↦ run end ps (Margin 0 false) ws
-        | Space ↦ run end ps (Margin (width + 1) tab) ws
-        | Tab ↦ run end ps (Margin (width + 1) true) ws
+        | Break ↦ run end ps (Indentation 0 false) ws
+        | Space ↦ run end ps (Indentation (width + 1) tab) ws
+        | Tab ↦ run end ps (Indentation (width + 1) true) ws
         | Comment ↦ run end ps (Inside 0 false) ws
       ]
     ]
-run end (p ∷ ps) (Inside depth loud) ws =
+run end (p ∷ ps) (Inside depth has_tokens) ws =
     elim (p.means) [
       | Err f ↦ Err (fault_at f p.at)
       | Ok s ↦ elim s [
-        | Spelled k ↦ ahead (shown loud (token_at k p)) (run end ps (Inside (bracket depth k) loud) ws)
+        | Spelled k ↦ ahead (token_if has_tokens (token_at k p)) (run end ps (Inside (bracket depth k) has_tokens) ws)
         | Break ↦ elim (depth == 0) [
-          | true ↦ ahead (shown loud (token_at kind.Newline p)) (run end ps (Margin 0 false) ws)
-          | false ↦ run end ps (Inside depth loud) ws
+          | true ↦ ahead (token_if has_tokens (token_at kind.Newline p)) (run end ps (Indentation 0 false) ws)
+          | false ↦ run end ps (Inside depth has_tokens) ws
         ]
-        | Space ↦ run end ps (Inside depth loud) ws
-        | Tab ↦ run end ps (Inside depth loud) ws
-        | Comment ↦ run end ps (Inside depth loud) ws
+        | Space ↦ run end ps (Inside depth has_tokens) ws
+        | Tab ↦ run end ps (Inside depth has_tokens) ws
+        | Comment ↦ run end ps (Inside depth has_tokens) ws
       ]
     ]
 
@@ -126,8 +126,8 @@ abbrev pub bad : Flaw → Place → ℕ → Piece
 bad f p to = record { means = Err f; at = p; to = to }
 
 -- what is left of the text says this, after these tokens
-abbrev pub SaysFrom : Place → Text → List Token → Mode → List ℕ → Answer → Type 0
-SaysFrom p text ts m ws answer =
+abbrev pub ReadsFrom : Place → Text → List Token → Mode → List ℕ → Answer → Type 0
+ReadsFrom p text ts m ws answer =
     (pieces : List Text) × IsCut text pieces × (ahead ts (run (end_of p pieces) (placed p pieces) m ws) ≡ answer)
 
 -- ---- the same of scanners

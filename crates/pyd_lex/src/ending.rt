@@ -28,11 +28,11 @@ impl Scanner {
         ensures { IsStopped self.old flaw place result }
     {
         match self.mode {
-            Mode::Margin(width, tab) => match self.begin(width, tab, place) {
+            Mode::Indentation { width, tab } => match self.begin(width, tab, place) {
                 Ok(()) => LexStop::Fault(fault(flaw, place.line)),
                 Err(stop) => stop,
             },
-            Mode::Inside(..) => LexStop::Fault(fault(flaw, place.line)),
+            Mode::Inside { .. } => LexStop::Fault(fault(flaw, place.line)),
         }
     }
 
@@ -53,9 +53,9 @@ impl Scanner {
         ensures widths { self.new.widths.items ≡ self.old.widths.items }
     {
         match self.mode {
-            Mode::Margin(..) => Ok(()),
-            Mode::Inside(depth, loud) => {
-                self.show(loud && depth == 0, TokenKind::Newline, end, end)
+            Mode::Indentation { .. } => Ok(()),
+            Mode::Inside { depth, has_tokens } => {
+                self.push_if(has_tokens && depth == 0, TokenKind::Newline, end, end)
             }
         }
     }

@@ -1,6 +1,6 @@
 //! Laws of the relation between bytes and tokens, each proved by the contract of an empty function.
 
-ghost use Rattle.pyd_lex.specs.Laws.{OneAnswer, AnAnswer, FirstFault, LinesWhole, AllWell, Spelled};
+ghost use Rattle.pyd_lex.specs.Laws.{OneAnswer, AnAnswer, FirstFault, LinesWhole, AllGood, Spelled};
 ghost use Rattle.pyd_lex.specs.TokenBytes.{TokenBytes, TokenTexts};
 
 /// Bytes have no two answers, so what `tokens` answers is the only one.
@@ -26,8 +26,8 @@ pub fn lines_whole()
 {}
 
 /// Tokens come only where all pieces of the cut are good.
-pub fn all_well()
-    ensures { AllWell }
+pub fn all_good()
+    ensures { AllGood }
 {}
 
 /// The bytes of each piece of the cut are the piece, so `text_of` gives a string token's value.

@@ -21,7 +21,7 @@ mod word;
 
 pub use fault::{LexFault, LexStop};
 pub use laws::{
-    all_well, an_answer, first_fault, lines_whole, one_answer, spelled, token_bytes, token_texts,
+    all_good, an_answer, first_fault, lines_whole, one_answer, spelled, token_bytes, token_texts,
 };
 pub use mark::Mark;
 pub use scan::tokens;

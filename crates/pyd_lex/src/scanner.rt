@@ -1,12 +1,12 @@
 //! The scanner: what a piece of the text does to the tokens so far.
 
 ghost use Rattle.std.specs.Prelude.{◌≡◌, ◌<◌, ◌≤◌, ◌∷◌, [], ◌++◌, reverse, false, OnOk, IfErr};
-ghost use Rattle.pyd_lex.specs.Lines.{shown};
+ghost use Rattle.pyd_lex.specs.Lines.{token_if};
 ghost use Rattle.pyd_lex.specs.Scan.{Takes, Halts, good, count, Took, Halted, Adds, begun, spelled, token_between};
 ghost use Rattle.pyd_lex.specs.Reads.{IfFault};
 
 use crate::fault::LexStop;
-use crate::mode::{Mode, bracketed, margin_after};
+use crate::mode::{Mode, bracketed, indentation_after};
 use crate::place::Place;
 use crate::token::Shape;
 use crate::{Token, TokenKind};
@@ -24,12 +24,15 @@ impl Scanner {
     pub fn new(alloc: Global) -> Scanner
         ensures tokens { result.tokens.items ≡ [] }
         ensures widths { result.widths.items ≡ [] }
-        ensures mode { result.mode ≡ Mode.Margin 0 false }
+        ensures mode { result.mode ≡ Mode.Indentation 0 false }
     {
         Scanner {
             tokens: Vec::new(alloc),
             widths: Vec::new(alloc),
-            mode: Mode::Margin(0, false),
+            mode: Mode::Indentation {
+                width: 0,
+                tab: false,
+            },
         }
     }
 
@@ -54,12 +57,14 @@ impl Scanner {
         ensures within { OnOk result (count self.new.mode ≤ next.at) }
     {
         match self.mode {
-            Mode::Margin(width, tab) => self.in_margin(width, tab, shape, place, next),
-            Mode::Inside(depth, loud) => self.inside(depth, loud, shape, place, next),
+            Mode::Indentation { width, tab } => self.in_indentation(width, tab, shape, place, next),
+            Mode::Inside { depth, has_tokens } => self.inside(
+                depth, has_tokens, shape, place, next,
+            ),
         }
     }
 
-    fn in_margin(
+    fn in_indentation(
         &mut self,
         width: u32,
         tab: bool,
@@ -67,17 +72,17 @@ impl Scanner {
         place: Place,
         next: Place,
     ) -> Result<(), LexStop>
-        requires mode { self.old.mode ≡ Mode.Margin width tab }
+        requires mode { self.old.mode ≡ Mode.Indentation width tab }
         requires room { place.at < next.at }
         requires within { width ≤ place.at }
-        ensures ok { OnOk result (Took (Mode.Margin width tab) self.old self.new (good shape place next)) }
-        ensures fault { IfErr result (Halted (Mode.Margin width tab) self.old (good shape place next)) }
+        ensures ok { OnOk result (Took (Mode.Indentation width tab) self.old self.new (good shape place next)) }
+        ensures fault { IfErr result (Halted (Mode.Indentation width tab) self.old (good shape place next)) }
         ensures within { OnOk result (count self.new.mode ≤ next.at) }
     {
         if let Shape::Token(kind) = shape {
             return self.first_token(width, tab, kind, place, next);
         }
-        self.mode = margin_after(width, tab, shape);
+        self.mode = indentation_after(width, tab, shape);
         Ok(())
     }
 
@@ -90,37 +95,40 @@ impl Scanner {
         next: Place,
     ) -> Result<(), LexStop>
         requires room { place.at < next.at }
-        ensures ok { OnOk result (Took (Mode.Margin width tab) self.old self.new (spelled kind place next)) }
-        ensures fault { IfErr result (Halted (Mode.Margin width tab) self.old (spelled kind place next)) }
+        ensures ok { OnOk result (Took (Mode.Indentation width tab) self.old self.new (spelled kind place next)) }
+        ensures fault { IfErr result (Halted (Mode.Indentation width tab) self.old (spelled kind place next)) }
         ensures within { OnOk result (count self.new.mode ≤ next.at) }
     {
         match self.begin(width, tab, place) {
             Ok(()) => {}
             Err(stop) => return Err(stop),
         }
-        self.show(true, kind, place, next)?;
-        self.mode = Mode::Inside(bracketed(0, kind), true);
+        self.push_if(true, kind, place, next)?;
+        self.mode = Mode::Inside {
+            depth: bracketed(0, kind),
+            has_tokens: true,
+        };
         Ok(())
     }
 
     fn inside(
         &mut self,
         depth: u32,
-        loud: bool,
+        has_tokens: bool,
         shape: Shape,
         place: Place,
         next: Place,
     ) -> Result<(), LexStop>
-        requires mode { self.old.mode ≡ Mode.Inside depth loud }
+        requires mode { self.old.mode ≡ Mode.Inside depth has_tokens }
         requires room { place.at < next.at }
         requires within { depth ≤ place.at }
-        ensures ok { OnOk result (Took (Mode.Inside depth loud) self.old self.new (good shape place next)) }
-        ensures fault { IfErr result (Halted (Mode.Inside depth loud) self.old (good shape place next)) }
+        ensures ok { OnOk result (Took (Mode.Inside depth has_tokens) self.old self.new (good shape place next)) }
+        ensures fault { IfErr result (Halted (Mode.Inside depth has_tokens) self.old (good shape place next)) }
         ensures within { OnOk result (count self.new.mode ≤ next.at) }
     {
         match shape {
-            Shape::Token(kind) => self.inner_token(depth, loud, kind, place, next),
-            Shape::Break => self.line_break(depth, loud, place, next),
+            Shape::Token(kind) => self.inner_token(depth, has_tokens, kind, place, next),
+            Shape::Break => self.line_break(depth, has_tokens, place, next),
             _ => Ok(()),
         }
     }
@@ -128,58 +136,64 @@ impl Scanner {
     fn inner_token(
         &mut self,
         depth: u32,
-        loud: bool,
+        has_tokens: bool,
         kind: TokenKind,
         place: Place,
         next: Place,
     ) -> Result<(), LexStop>
         requires room { place.at < next.at }
         requires within { depth ≤ place.at }
-        ensures ok { OnOk result (Took (Mode.Inside depth loud) self.old self.new (spelled kind place next)) }
+        ensures ok { OnOk result (Took (Mode.Inside depth has_tokens) self.old self.new (spelled kind place next)) }
         ensures err { IfErr result (λ stop. stop ≡ LexStop.NoMemory) }
         ensures within { OnOk result (count self.new.mode ≤ next.at) }
     {
-        self.show(loud, kind, place, next)?;
-        self.mode = Mode::Inside(bracketed(depth, kind), loud);
+        self.push_if(has_tokens, kind, place, next)?;
+        self.mode = Mode::Inside {
+            depth: bracketed(depth, kind),
+            has_tokens,
+        };
         Ok(())
     }
 
     fn line_break(
         &mut self,
         depth: u32,
-        loud: bool,
+        has_tokens: bool,
         place: Place,
         next: Place,
     ) -> Result<(), LexStop>
-        requires mode { self.old.mode ≡ Mode.Inside depth loud }
+        requires mode { self.old.mode ≡ Mode.Inside depth has_tokens }
         requires room { place.at < next.at }
         requires within { depth ≤ place.at }
-        ensures ok { OnOk result (Took (Mode.Inside depth loud) self.old self.new (good Shape.Break place next)) }
+        ensures ok { OnOk result (Took (Mode.Inside depth has_tokens) self.old self.new (good Shape.Break place next)) }
         ensures err { IfErr result (λ stop. stop ≡ LexStop.NoMemory) }
         ensures within { OnOk result (count self.new.mode ≤ next.at) }
     {
         if depth != 0 {
             return Ok(());
         }
-        self.show(loud, TokenKind::Newline, place, next)?;
-        self.mode = Mode::Margin(0, false);
+        self.push_if(has_tokens, TokenKind::Newline, place, next)?;
+        self.mode = Mode::Indentation {
+            width: 0,
+            tab: false,
+        };
         Ok(())
     }
 
     /// Puts a token where the line has tokens.
-    pub fn show(
+    pub fn push_if(
         &mut self,
-        loud: bool,
+        has_tokens: bool,
         kind: TokenKind,
         place: Place,
         next: Place,
     ) -> Result<(), LexStop>
-        ensures ok { OnOk result (Adds self.old self.new (shown loud (token_between kind place next))) }
+        ensures ok { OnOk result (Adds self.old self.new (token_if has_tokens (token_between kind place next))) }
         ensures err { IfErr result (λ stop. stop ≡ LexStop.NoMemory) }
         ensures widths { self.new.widths.items ≡ self.old.widths.items }
         ensures mode { self.new.mode ≡ self.old.mode }
     {
-        if !loud {
+        if !has_tokens {
             return Ok(());
         }
         self.push(Token {

@@ -1,6 +1,6 @@
 //! Sources that CPython's tokenize reads otherwise or not at all, with their tokens or their fault.
 
-pub(crate) const SHOWN: [(&str, &str); 20] = [
+pub(crate) const LISTED: [(&str, &str); 20] = [
     (
         "x\ry\r\nz",
         "Name@0-1:1 Newline@1-2:1 Name@2-3:2 Newline@3-5:2 Name@5-6:3 Newline@6-6:3 End@6-6:3",
