@@ -12,7 +12,7 @@ use Rattle.pyd_lex.specs.declared.token.Token.{Token}
 use Rattle.pyd_lex.specs.declared.token.TokenKind.TheVariants as kind
 use Rattle.pyd_lex.specs.Words.{Text}
 use Rattle.pyd_lex.specs.Meaning.{Judged}
-use Rattle.pyd_lex.specs.Lines.{Piece, Line, Lines, Answer, ahead, lowered, indented, top, empty_at, token_at, token_if, bracket, closing, closes_line, depth_after, joined, lines, all_lines, tokens_of_pieces, tokens_of_line, tokens_of_lines, content, width, has_tab, is_comment_or_end, placed, end_of, read}
+use Rattle.pyd_lex.specs.Lines.{Piece, Line, Lines, Answer, ahead, lowered, indented, top, empty_at, token_at, token_if, bracket, closing, closes_line, depth_after, joined, lines, all_lines, tokens_of_pieces, tokens_of_line, tokens_of_lines, content, width, has_tab, is_comment_or_end, place_of, placed, end_of, read}
 use Rattle.pyd_lex.specs.Faults.{may_stand, opened, indentation_fault, opened_by, flaw_fault, or_else, first_fault}
 use Rattle.pyd_lex.specs.Laws.{FirstFault, LinesWhole, AllGood, AreGood, IsGoodPiece}
 use Rattle.pyd_lex.proofs.Lines.{ahead_ahead, lowered_none, lowered_some, indented_is}
@@ -179,7 +179,7 @@ AreProper [] = Unit {0}
 AreProper (l ∷ ls) = Proper 0 l × AreProper ls
 
 abbrev made : Judged → Place → ℕ → Piece
-made j p to = record { means = j; at = p; to = to }
+made j p to = record { means = j; from = p.at; to = to; line = p.line }
 
 closes_at_none : (depth : ℕ) (j : Judged) → closes_line depth j ≡ true → depth_after depth j ≡ 0
 closes_at_none depth (Err f) e = cc
@@ -237,7 +237,7 @@ module _ (end : Place) where
   pieces : (ps : Line) → Pieces ps
   unfolding tokens_of_pieces
   pieces [] has_tokens depth later h = (token_if _ (empty_at kind.Newline end), refl)
-  pieces (p ∷ ps) has_tokens depth later h = piece_tokens p.means p.at p.to ps (pieces ps) has_tokens depth later h
+  pieces (p ∷ ps) has_tokens depth later h = piece_tokens p.means (place_of p) p.to ps (pieces ps) has_tokens depth later h
 
   -- ---- white space at the start of a line has no flaw and ends none
 
@@ -255,7 +255,7 @@ module _ (end : Place) where
 
   content_of : (l : Line) → Content l
   content_of [] = record { flaw = refl; proper = λ h. h }
-  content_of (p ∷ ps) = white p.means p.at p.to ps (content_of ps)
+  content_of (p ∷ ps) = white p.means (place_of p) p.to ps (content_of ps)
 
   -- ---- a line, and those after it
 
@@ -282,7 +282,7 @@ module _ (end : Place) where
   blank_content c = elim c [ [] ↦ true | p ∷ ps ↦ is_comment_or_end p.means ]
 
   abbrev number_of : Line → ℕ
-  number_of c = elim c [ [] ↦ 0 | p ∷ ps ↦ p.at.line ]
+  number_of c = elim c [ [] ↦ 0 | p ∷ ps ↦ p.line ]
 
   abbrev step : Line → ℕ → Bool → List ℕ → Option LexFault → List Line → Option LexFault
   step c w tab open_widths o ls =
@@ -295,7 +295,7 @@ module _ (end : Place) where
       rw (e, tokens_of_line) (then_later (flaw_fault (p ∷ ps)) (first_fault (open_of ws) ls) (tokens_of_lines end ls ws) (tokens_of_pieces end false 0 (p ∷ ps) (tokens_of_lines end ls ws)) (pieces (p ∷ ps) false 0 (tokens_of_lines end ls ws) h) (g ws s))
   by_content false true p ps w ws ls e g s h = rw (e, tokens_of_line) refl
   by_content false false p ps w ws ls e g s h =
-      rw (e, tokens_of_line) (stands (may_stand w (open_of ws)) p.at ps p w ws ls g (pieces (p ∷ ps)) h (begins w p.at ws (λ vs. tokens_of_pieces end true 0 (p ∷ ps) (tokens_of_lines end ls vs)) s))
+      rw (e, tokens_of_line) (stands (may_stand w (open_of ws)) (place_of p) ps p w ws ls g (pieces (p ∷ ps)) h (begins w (place_of p) ws (λ vs. tokens_of_pieces end true 0 (p ∷ ps) (tokens_of_lines end ls vs)) s))
 
   whole_line : (c : Line) (w : ℕ) (tab : Bool) (ws : List ℕ) (ls : List Line) → Faults ls → Stacked ws → Proper 0 c → Verdict (step c w tab (open_of ws) (flaw_fault c) ls) (tokens_of_line end c w tab ws (tokens_of_lines end ls))
   unfolding tokens_of_line
@@ -361,7 +361,7 @@ good_piece (Ok s) p to ps e = ((s, refl), e)
 good_line : (l : Line) (rest : List Piece) → flaw_fault l ≡ None → AreGood rest → AreGood (l ++ rest)
 good_line [] rest e w = w
 good_line (p ∷ ps) rest e w =
-    let h = good_piece p.means p.at p.to ps e in (h.0, good_line ps rest h.1 w)
+    let h = good_piece p.means (place_of p) p.to ps e in (h.0, good_line ps rest h.1 w)
 
 good_lines : (open_widths : List ℕ) (ls : List Line) → first_fault open_widths ls ≡ None → AreGood (flat_map (λ l. l) ls)
 good_lines open_widths [] e = tt

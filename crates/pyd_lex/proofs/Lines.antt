@@ -10,8 +10,8 @@ use Rattle.pyd_lex.specs.declared.token.Token.{Token}
 use Rattle.pyd_lex.specs.declared.token.TokenKind.TheVariants as kind
 use Rattle.pyd_lex.specs.Words.{Text}
 use Rattle.pyd_lex.specs.Meaning.{Judged}
-use Rattle.pyd_lex.specs.Lines.{Piece, Lines, Answer, ahead, token_if, token_at, tokens_of_pieces, lines, tokens_of_lines, tokens_of_line, content, width, has_tab, all_lines, read, placed, end_of, lowered, indented, top, empty_at, bracket, joined}
-use Rattle.pyd_lex.specs.Scan.{run}
+use Rattle.pyd_lex.specs.Lines.{Piece, Lines, Answer, ahead, token_if, token_at, tokens_of_pieces, lines, tokens_of_lines, tokens_of_line, content, width, has_tab, all_lines, read, place_of, placed, end_of, lowered, indented, top, empty_at, bracket, joined}
+use Rattle.pyd_lex.specs.Machine.{run}
 
 pub ahead_nil : (a : Answer) → ahead [] a ≡ a
 ahead_nil (Ok us) = refl
@@ -52,32 +52,32 @@ module _ (end : Place) where
   unfolding tokens_of_pieces
   pieces_joined x qs depth has_tokens later m e = rw (m, e, tokens_of_pieces) refl
 
-  break_pieces : (b : Bool) (p : Place) (to : ℕ) (ps : List Piece) (depth : ℕ) (has_tokens : Bool) (ws : List ℕ) → (depth == 0) ≡ b → tokens_of_pieces end has_tokens depth (lines depth (record { means = Ok Break; at = p; to = to } ∷ ps)).first (tokens_of_lines end (lines depth (record { means = Ok Break; at = p; to = to } ∷ ps)).others ws) ≡ after_break b (record { means = Ok Break; at = p; to = to }) ps depth has_tokens ws
+  break_pieces : (b : Bool) (p : Place) (to : ℕ) (ps : List Piece) (depth : ℕ) (has_tokens : Bool) (ws : List ℕ) → (depth == 0) ≡ b → tokens_of_pieces end has_tokens depth (lines depth (record { means = Ok Break; from = p.at; to = to; line = p.line } ∷ ps)).first (tokens_of_lines end (lines depth (record { means = Ok Break; from = p.at; to = to; line = p.line } ∷ ps)).others ws) ≡ after_break b (record { means = Ok Break; from = p.at; to = to; line = p.line }) ps depth has_tokens ws
   unfolding lines
   break_pieces true p to ps depth has_tokens ws e =
-      let x : Piece = record { means = Ok Break; at = p; to = to } in
+      let x : Piece = record { means = Ok Break; from = p.at; to = to; line = p.line } in
       ap (λ c. tokens_of_pieces end has_tokens depth (joined c x (lines depth ps)).first (tokens_of_lines end (joined c x (lines depth ps)).others ws)) e ∙ pieces_end x [] depth has_tokens (tokens_of_lines end (all_lines (lines depth ps)) ws) refl e
   break_pieces false p to ps depth has_tokens ws e =
-      let x : Piece = record { means = Ok Break; at = p; to = to } in
+      let x : Piece = record { means = Ok Break; from = p.at; to = to; line = p.line } in
       ap (λ c. tokens_of_pieces end has_tokens depth (joined c x (lines depth ps)).first (tokens_of_lines end (joined c x (lines depth ps)).others ws)) e ∙ pieces_joined x (lines depth ps).first depth has_tokens (tokens_of_lines end (lines depth ps).others ws) refl e
 
-  break_run : (b : Bool) (p : Place) (to : ℕ) (ps : List Piece) → Same ps → (depth : ℕ) (has_tokens : Bool) (ws : List ℕ) → (depth == 0) ≡ b → run end (record { means = Ok Break; at = p; to = to } ∷ ps) (Inside depth has_tokens) ws ≡ after_break b (record { means = Ok Break; at = p; to = to }) ps depth has_tokens ws
+  break_run : (b : Bool) (p : Place) (to : ℕ) (ps : List Piece) → Same ps → (depth : ℕ) (has_tokens : Bool) (ws : List ℕ) → (depth == 0) ≡ b → run end (record { means = Ok Break; from = p.at; to = to; line = p.line } ∷ ps) (Inside depth has_tokens) ws ≡ after_break b (record { means = Ok Break; from = p.at; to = to; line = p.line }) ps depth has_tokens ws
   unfolding run
   break_run true p to ps s depth has_tokens ws e =
       let z = eqb-true depth 0 e in
-      rw (e, run) (ap (ahead (token_if has_tokens (token_at kind.Newline (record { means = Ok Break; at = p; to = to })))) (next_line ps ws s ∙ ap (λ d. tokens_of_lines end (all_lines (lines d ps)) ws) (sym z)))
+      rw (e, run) (ap (ahead (token_if has_tokens (token_at kind.Newline (record { means = Ok Break; from = p.at; to = to; line = p.line })))) (next_line ps ws s ∙ ap (λ d. tokens_of_lines end (all_lines (lines d ps)) ws) (sym z)))
   break_run false p to ps s depth has_tokens ws e = rw (e, run) (s.inside depth has_tokens ws)
 
-  inside_step : (j : Judged) (p : Place) (to : ℕ) (ps : List Piece) → Same ps → (depth : ℕ) (has_tokens : Bool) (ws : List ℕ) → run end (record { means = j; at = p; to = to } ∷ ps) (Inside depth has_tokens) ws ≡ tokens_of_pieces end has_tokens depth (lines depth (record { means = j; at = p; to = to } ∷ ps)).first (tokens_of_lines end (lines depth (record { means = j; at = p; to = to } ∷ ps)).others ws)
+  inside_step : (j : Judged) (p : Place) (to : ℕ) (ps : List Piece) → Same ps → (depth : ℕ) (has_tokens : Bool) (ws : List ℕ) → run end (record { means = j; from = p.at; to = to; line = p.line } ∷ ps) (Inside depth has_tokens) ws ≡ tokens_of_pieces end has_tokens depth (lines depth (record { means = j; from = p.at; to = to; line = p.line } ∷ ps)).first (tokens_of_lines end (lines depth (record { means = j; from = p.at; to = to; line = p.line } ∷ ps)).others ws)
   unfolding run tokens_of_pieces lines
   inside_step (Err f) p to ps s depth has_tokens ws = refl
   inside_step (Ok Space) p to ps s depth has_tokens ws = s.inside depth has_tokens ws
   inside_step (Ok Tab) p to ps s depth has_tokens ws = s.inside depth has_tokens ws
   inside_step (Ok Comment) p to ps s depth has_tokens ws = s.inside depth has_tokens ws
   inside_step (Ok Break) p to ps s depth has_tokens ws = break_run (depth == 0) p to ps s depth has_tokens ws refl ∙ sym (break_pieces (depth == 0) p to ps depth has_tokens ws refl)
-  inside_step (Ok (Spelled k)) p to ps s depth has_tokens ws = ap (ahead (token_if has_tokens (token_at k (record { means = Ok (Spelled k); at = p; to = to })))) (s.inside (bracket depth k) has_tokens ws)
+  inside_step (Ok (Spelled k)) p to ps s depth has_tokens ws = ap (ahead (token_if has_tokens (token_at k (record { means = Ok (Spelled k); from = p.at; to = to; line = p.line })))) (s.inside (bracket depth k) has_tokens ws)
 
-  indentation_step : (j : Judged) (p : Place) (to : ℕ) (ps : List Piece) → Same ps → (w : ℕ) (tab : Bool) (ws : List ℕ) → run end (record { means = j; at = p; to = to } ∷ ps) (Indentation w tab) ws ≡ after_indentation w tab ws (lines 0 (record { means = j; at = p; to = to } ∷ ps))
+  indentation_step : (j : Judged) (p : Place) (to : ℕ) (ps : List Piece) → Same ps → (w : ℕ) (tab : Bool) (ws : List ℕ) → run end (record { means = j; from = p.at; to = to; line = p.line } ∷ ps) (Indentation w tab) ws ≡ after_indentation w tab ws (lines 0 (record { means = j; from = p.at; to = to; line = p.line } ∷ ps))
   unfolding run tokens_of_pieces lines tokens_of_line
   indentation_step (Err f) p to ps s w true ws = refl
   indentation_step (Err f) p to ps s w false ws = ap (λ n. indented n p ws (λ vs. Err _)) (sym (add-zero w))
@@ -89,13 +89,13 @@ module _ (end : Place) where
   indentation_step (Ok Break) p to ps s w tab ws = next_line ps ws s ∙ sym (ahead_nil (tokens_of_lines end (all_lines (lines 0 ps)) ws))
   indentation_step (Ok (Spelled k)) p to ps s w true ws = refl
   indentation_step (Ok (Spelled k)) p to ps s w false ws =
-      ap (λ n. indented n p ws (λ vs. ahead (token_at k (record { means = Ok (Spelled k); at = p; to = to }) ∷ []) (run end ps (Inside (bracket 0 k) true) vs))) (sym (add-zero w)) ∙ (λ i. indented (w + 0) p ws (λ vs. ahead (token_at k (record { means = Ok (Spelled k); at = p; to = to }) ∷ []) (s.inside (bracket 0 k) true vs i)))
+      ap (λ n. indented n p ws (λ vs. ahead (token_at k (record { means = Ok (Spelled k); from = p.at; to = to; line = p.line }) ∷ []) (run end ps (Inside (bracket 0 k) true) vs))) (sym (add-zero w)) ∙ (λ i. indented (w + 0) p ws (λ vs. ahead (token_at k (record { means = Ok (Spelled k); from = p.at; to = to; line = p.line }) ∷ []) (s.inside (bracket 0 k) true vs i)))
 
   same : (ps : List Piece) → Same ps
   same [] = same_none
   same (p ∷ ps) =
       let s = same ps in
-      record { inside = inside_step p.means p.at p.to ps s; indentation = indentation_step p.means p.at p.to ps s }
+      record { inside = inside_step p.means (place_of p) p.to ps s; indentation = indentation_step p.means (place_of p) p.to ps s }
 
 -- a scan from the start of a text says what its pieces say
 pub run_reads : (p : Place) (pieces : List Text) → run (end_of p pieces) (placed p pieces) (Indentation 0 false) [] ≡ read p pieces

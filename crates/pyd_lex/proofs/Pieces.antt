@@ -18,11 +18,12 @@ use Rattle.pyd_lex.specs.declared.token.TokenKind.TheVariants as kind
 use Rattle.pyd_lex.specs.Words.{Text, begins, marks, mark_of, front_mark}
 use Rattle.pyd_lex.specs.Strings.{string_flaw}
 use Rattle.pyd_lex.specs.Numbers.{number}
-use Rattle.pyd_lex.specs.Spelling.{class_of, in_comment, continues, belong, IsLast, Extends, IsLongest}
+use Rattle.pyd_lex.specs.Spelling.{class_of, in_comment, continues, belong, IsLast, Extends, IsLongest, HasClass}
 use Rattle.pyd_lex.specs.Meaning.{meaning, judged, as_token, name, ended, other, spacing, spacing_or, marked}
 use Rattle.pyd_lex.specs.declared.fault.Stop.{Stop}
 use Rattle.pyd_lex.specs.declared.fault.Stop.TheVariants as stop
-use Rattle.pyd_lex.specs.Scan.{IsGood, IsFlawed, IfFlaw, HasClass}
+use Rattle.pyd_lex.specs.Front.{IsGood, IsFlawed}
+use Rattle.pyd_lex.specs.Stops.{IfFlaw}
 use Rattle.pyd_lex.proofs.Words.{and_left, FrontRow, front_row, no_front, descending}
 use Rattle.pyd_lex.proofs.Spelling.{longest_from}
 

@@ -25,9 +25,12 @@ use Rattle.pyd_lex.specs.declared.token.TokenKind.TheVariants as kind
 use Rattle.pyd_lex.specs.Words.{Text}
 use Rattle.pyd_lex.specs.Spelling.{IsCut, IsLongest}
 use Rattle.pyd_lex.specs.Meaning.{meaning}
-use Rattle.pyd_lex.specs.Lines.{Piece, Answer, ahead, token_if, token_at, empty_at, fault_at, bracket, lowered, indented, top, closing, size, ends, is_end, after, placed, end_of}
-use Rattle.pyd_lex.specs.Scan.{run, started, unfinished, indentation_after, Begins, Refuses, Takes, Halts, good, bad, ReadsFrom, IsGood, IsFlawed, IfFlaw, IsFlaw}
-use Rattle.pyd_lex.specs.Reads.{CutReads, IfFault, has_bom}
+use Rattle.pyd_lex.specs.Lines.{Piece, Answer, ahead, token_if, token_at, empty_at, fault_in, bracket, lowered, indented, top, closing, size, ends, is_end, after, placed, end_of}
+use Rattle.pyd_lex.specs.Machine.{run, started, unfinished, indentation_after}
+use Rattle.pyd_lex.specs.Steps.{Begins, Refuses, Takes, Halts, good, bad, ReadsFrom}
+use Rattle.pyd_lex.specs.Front.{IsGood, IsFlawed}
+use Rattle.pyd_lex.specs.Stops.{IfFlaw, IsFlaw, IfFault}
+use Rattle.pyd_lex.specs.Reads.{CutReads, has_bom}
 use Rattle.pyd_lex.proofs.Lines.{ahead_nil, ahead_ahead, run_reads}
 use Rattle.pyd_lex.proofs.Spelling.{cut_exists}
 
@@ -140,7 +143,7 @@ top_slice xs ys e h =
 
 -- ---- a piece in the margin of a line
 
-module _ (ts : List Token) (w : ℕ) (tab : Bool) (ws : List ℕ) (p q : Place) where
+module _ (ts : List Token) (w : ℕ) (tab : Bool) (ws : List ℕ) (p : Place) (q : ℕ) where
   pub take_indentation : (s : Shape) (us : List Token) (vs : List ℕ) (m : Mode) → ((k : TokenKind) → s ≡ Spelled k → ⊥) → us ≡ ts → vs ≡ ws → m ≡ indentation_after w tab s → Takes ts (Indentation w tab) ws (good s p q) us m vs
   unfolding run
   take_indentation Space us vs m h e f g end ps = λ i. ahead (sym e i) (run end ps (sym g i) (sym f i))
@@ -164,15 +167,15 @@ module _ (ts : List Token) (w : ℕ) (tab : Bool) (ws : List ℕ) (p q : Place) 
 
   pub halt_indentation : (x : Wrong) (to : ℕ) (f : LexFault) → Refuses (λ next. started tab w p ws next) f → Halts (Indentation w tab) ws (bad x p to) f
   unfolding run
-  halt_indentation x to f r end ps = r (λ vs. Err (fault_at x p))
+  halt_indentation x to f r end ps = r (λ vs. Err (fault_in x p.line))
 
-  pub halt_begun : (x : Wrong) (to : ℕ) (us : List Token) (vs : List ℕ) → Begins ts (λ next. started tab w p ws next) us vs → Halts (Indentation w tab) ws (bad x p to) (fault_at x p)
+  pub halt_begun : (x : Wrong) (to : ℕ) (us : List Token) (vs : List ℕ) → Begins ts (λ next. started tab w p ws next) us vs → Halts (Indentation w tab) ws (bad x p to) (fault_in x p.line)
   unfolding run
-  halt_begun x to us vs b end ps = ahead_err ts (started tab w p ws (λ vs. Err (fault_at x p))) (fault_at x p) (b (λ vs. Err (fault_at x p)))
+  halt_begun x to us vs b end ps = ahead_err ts (started tab w p ws (λ vs. Err (fault_in x p.line))) (fault_in x p.line) (b (λ vs. Err (fault_in x p.line)))
 
 -- ---- a piece inside a line
 
-module _ (ts : List Token) (depth : ℕ) (has_tokens : Bool) (ws : List ℕ) (p q : Place) where
+module _ (ts : List Token) (depth : ℕ) (has_tokens : Bool) (ws : List ℕ) (p : Place) (q : ℕ) where
   pub take_inside : (us : List Token) (k : TokenKind) → us ≡ ts ++ token_if has_tokens (token_at k (good (Spelled k) p q)) → Takes ts (Inside depth has_tokens) ws (good (Spelled k) p q) us (Inside (bracket depth k) has_tokens) ws
   unfolding run
   take_inside us k e end ps =
@@ -198,15 +201,15 @@ module _ (ts : List Token) (depth : ℕ) (has_tokens : Bool) (ws : List ℕ) (p 
   take_spacing Break m h k e end ps = absurd (k refl)
   take_spacing (Spelled t) m h k e end ps = absurd (h t refl)
 
-  pub halt_inside : (x : Wrong) (to : ℕ) → Halts (Inside depth has_tokens) ws (bad x p to) (fault_at x p)
+  pub halt_inside : (x : Wrong) (to : ℕ) → Halts (Inside depth has_tokens) ws (bad x p to) (fault_in x p.line)
   unfolding run
   halt_inside x to end ps = refl
 
   pub take_inside_as : (us : List Token) (k : TokenKind) (vs : List ℕ) (m : Mode) → us ≡ ts ++ token_if has_tokens (token_at k (good (Spelled k) p q)) → vs ≡ ws → m ≡ Inside (bracket depth k) has_tokens → Takes ts (Inside depth has_tokens) ws (good (Spelled k) p q) us m vs
   take_inside_as us k vs m e f g end ps = take_inside us k e end ps ∙ (λ i. ahead us (run end ps (sym g i) (sym f i)))
 
-  pub take_end_as : (us : List Token) (vs : List ℕ) → depth ≡ 0 → us ≡ ts ++ token_if has_tokens (token_at kind.Newline (good Break p q)) → vs ≡ ws → Takes ts (Inside depth has_tokens) ws (good Break p q) us (Indentation 0 false) vs
-  take_end_as us vs d e f end ps = take_end us d e end ps ∙ ap (λ v. ahead us (run end ps (Indentation 0 false) v)) (sym f)
+  pub take_end_as : (us : List Token) (vs : List ℕ) (m : Mode) → depth ≡ 0 → us ≡ ts ++ token_if has_tokens (token_at kind.Newline (good Break p q)) → vs ≡ ws → m ≡ Indentation 0 false → Takes ts (Inside depth has_tokens) ws (good Break p q) us m vs
+  take_end_as us vs m d e f g end ps = take_end us d e end ps ∙ (λ i. ahead us (run end ps (sym g i) (sym f i)))
 
   pub take_joined_as : (m : Mode) → m ≡ Inside depth has_tokens → (depth ≡ 0 → ⊥) → Takes ts (Inside depth has_tokens) ws (good Break p q) ts m ws
   take_joined_as m e d end ps = take_joined d end ps ∙ ap (λ n. ahead ts (run end ps n ws)) (sym e)
@@ -258,20 +261,20 @@ cut_more text n pieces l c =
     let e : length (take n text) ≡ n = length-take-le n text l.within in
     subst (λ k. (take n text ≡ take k text) × IsLongest text k × IsCut (drop k text) pieces) (sym e) (refl, l, c)
 
-reads_piece : (p : Place) (text : Text) (n : ℕ) (x : Piece) (pieces : List Text) (ts : List Token) (m : Mode) (ws : List ℕ) (answer : Answer) → IsLongest text n → IsCut (drop n text) pieces → x ≡ record { means = meaning (take n text); at = p; to = p.at + size (take n text) } → Answered (end_of (after p (take n text)) pieces) x (placed (after p (take n text)) pieces) ts m ws ≡ answer → ReadsFrom p text ts m ws answer
+reads_piece : (p : Place) (text : Text) (n : ℕ) (x : Piece) (pieces : List Text) (ts : List Token) (m : Mode) (ws : List ℕ) (answer : Answer) → IsLongest text n → IsCut (drop n text) pieces → x ≡ record { means = meaning (take n text); from = p.at; to = p.at + size (take n text); line = p.line } → Answered (end_of (after p (take n text)) pieces) x (placed (after p (take n text)) pieces) ts m ws ≡ answer → ReadsFrom p text ts m ws answer
 reads_piece p text n x pieces ts m ws answer l c e h =
     (take n text ∷ pieces, cut_more text n pieces l c, ap (λ y. Answered (end_of (after p (take n text)) pieces) y (placed (after p (take n text)) pieces) ts m ws) (sym e) ∙ h)
 
-good_is : (p q : Place) (z : Text) (s : Shape) → meaning z ≡ Ok s → q ≡ after p z → good s p q ≡ record { means = meaning z; at = p; to = p.at + size z }
-good_is p q z s m e = λ i. record { means = sym m i; at = p; to = (e i).at }
+good_is : (p q : Place) (z : Text) (s : Shape) → meaning z ≡ Ok s → q ≡ after p z → good s p q.at ≡ record { means = meaning z; from = p.at; to = p.at + size z; line = p.line }
+good_is p q z s m e = λ i. record { means = sym m i; from = p.at; to = (e i).at; line = p.line }
 
-bad_is : (p : Place) (z : Text) (x : Wrong) → meaning z ≡ Err x → bad x p (p.at + size z) ≡ record { means = meaning z; at = p; to = p.at + size z }
-bad_is p z x m = λ i. record { means = sym m i; at = p; to = p.at + size z }
+bad_is : (p : Place) (z : Text) (x : Wrong) → meaning z ≡ Err x → bad x p (p.at + size z) ≡ record { means = meaning z; from = p.at; to = p.at + size z; line = p.line }
+bad_is p z x m = λ i. record { means = sym m i; from = p.at; to = p.at + size z; line = p.line }
 
-pub reads_more : (p q : Place) (text rest : Text) (n : ℕ) (s : Shape) (ts us : List Token) (m k : Mode) (ws vs : List ℕ) → IsGood text s n → q ≡ after p (take n text) → rest ≡ drop n text → Takes ts m ws (good s p q) us k vs → (answer : Answer) → ReadsFrom q rest us k vs answer → ReadsFrom p text ts m ws answer
+pub reads_more : (p q : Place) (text rest : Text) (n : ℕ) (s : Shape) (ts us : List Token) (m k : Mode) (ws vs : List ℕ) → IsGood text s n → q ≡ after p (take n text) → rest ≡ drop n text → Takes ts m ws (good s p q.at) us k vs → (answer : Answer) → ReadsFrom q rest us k vs answer → ReadsFrom p text ts m ws answer
 reads_more p q text rest n s ts us m k ws vs g e d t answer a =
     let b : ReadsFrom (after p (take n text)) (drop n text) us k vs answer = subst (λ y. ReadsFrom (after p (take n text)) y us k vs answer) d (subst (λ r. ReadsFrom r rest us k vs answer) e a) in
-    reads_piece p text n (good s p q) b.0 ts m ws answer g.longest b.1 (good_is p q (take n text) s g.means e)
+    reads_piece p text n (good s p q.at) b.0 ts m ws answer g.longest b.1 (good_is p q (take n text) s g.means e)
     (t (end_of (after p (take n text)) b.0) (placed (after p (take n text)) b.0) ∙ b.2)
 
 pub reads_flaw : (p : Place) (text : Text) (x : Wrong) (ts : List Token) (m : Mode) (ws : List ℕ) (f : LexFault) → IsFlawed text x → ((to : ℕ) → Halts m ws (bad x p to) f) → ReadsFrom p text ts m ws (Err f)
@@ -281,10 +284,10 @@ reads_flaw p text x ts m ws f b h =
     reads_piece p text b.0 (bad x p (p.at + size z)) c.0 ts m ws (Err f) b.1 c.1 (bad_is p z x b.2)
     (ap (ahead ts) (h (p.at + size z) (end_of (after p z) c.0) (placed (after p z) c.0)))
 
-pub reads_halt : (p q : Place) (text : Text) (n : ℕ) (s : Shape) (ts : List Token) (m : Mode) (ws : List ℕ) (f : LexFault) → IsGood text s n → q ≡ after p (take n text) → Halts m ws (good s p q) f → ReadsFrom p text ts m ws (Err f)
+pub reads_halt : (p q : Place) (text : Text) (n : ℕ) (s : Shape) (ts : List Token) (m : Mode) (ws : List ℕ) (f : LexFault) → IsGood text s n → q ≡ after p (take n text) → Halts m ws (good s p q.at) f → ReadsFrom p text ts m ws (Err f)
 reads_halt p q text n s ts m ws f g e h =
     let c = cut_exists (drop n text) in
-    reads_piece p text n (good s p q) c.0 ts m ws (Err f) g.longest c.1 (good_is p q (take n text) s g.means e)
+    reads_piece p text n (good s p q.at) c.0 ts m ws (Err f) g.longest c.1 (good_is p q (take n text) s g.means e)
     (ap (ahead ts) (h (end_of (after p (take n text)) c.0) (placed (after p (take n text)) c.0)))
 
 encodes_one : (c : ℕ) (z : Text) → size (c ∷ z) ≡ size (c ∷ []) + size z

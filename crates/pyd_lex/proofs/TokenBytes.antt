@@ -23,8 +23,8 @@ use Rattle.pyd_lex.specs.Strings.{string_flaw}
 use Rattle.pyd_lex.specs.Numbers.{number, is_digits, radix, digits, amount, narrow, is_led, sized}
 use Rattle.pyd_lex.specs.Spelling.{is_piece, class_of, IsCut}
 use Rattle.pyd_lex.specs.Meaning.{Judged, meaning, judged, as_token, ended, name, in_nfkc, known, spacing_or, marked}
-use Rattle.pyd_lex.specs.Lines.{Piece, Answer, ahead, lowered, indented, top, empty_at, token_at, token_if, bracket, closing, placed, end_of, size, after}
-use Rattle.pyd_lex.specs.Scan.{run, started}
+use Rattle.pyd_lex.specs.Lines.{Piece, Answer, ahead, lowered, indented, top, empty_at, token_at, token_if, bracket, closing, place_of, placed, end_of, size, after}
+use Rattle.pyd_lex.specs.Machine.{run, started}
 use Rattle.pyd_lex.specs.Reads.{start, without_bom, has_bom}
 use Rattle.pyd_lex.specs.Texts.{spelling_of}
 use Rattle.pyd_lex.specs.Laws.{AreSpelled}
@@ -297,18 +297,18 @@ module _ (bytes : List ℕ) where
   -- ---- pieces that follow one another up to the end of the bytes
 
   record Fits (p : Piece) : Type 0 where
-    forward : p.at.at ≤ p.to
+    forward : p.from ≤ p.to
     inside : p.to ≤ length bytes
-    utf8 : IsUtf8 (spelling_of bytes p.at.at p.to)
-    piece : is_piece (chars (spelling_of bytes p.at.at p.to)) ≡ true
-    means : meaning (chars (spelling_of bytes p.at.at p.to)) ≡ p.means
+    utf8 : IsUtf8 (spelling_of bytes p.from p.to)
+    piece : is_piece (chars (spelling_of bytes p.from p.to)) ≡ true
+    means : meaning (chars (spelling_of bytes p.from p.to)) ≡ p.means
 
   abbrev Chained : ℕ → List Piece → Type 0
   Chained at [] = at ≡ length bytes
-  Chained at (p ∷ ps) = (at ≡ p.at.at) × Fits p × Chained p.to ps
+  Chained at (p ∷ ps) = (at ≡ p.from) × Fits p × Chained p.to ps
 
   abbrev made : Judged → Place → ℕ → Piece
-  made j p to = record { means = j; at = p; to = to }
+  made j p to = record { means = j; from = p.at; to = to; line = p.line }
 
   fits_spells : (s : Shape) (p : Place) (to : ℕ) → Fits (made (Ok s) p to) → Spells (spelling_of bytes p.at to) s
   fits_spells s p to f = record { utf8 = f.utf8; piece = f.piece; means = f.means }
@@ -439,7 +439,7 @@ module _ (bytes : List ℕ) where
     good : (ps : List Piece) → Good ps
     good [] at m ws ts c h = good_none at m ws ts c h
     good (p ∷ ps) at m ws ts c h =
-        subst (λ n. Follows n (length ws) ts) (sym c.0) (step_good p.means p.at p.to ps (good ps) c.1 c.2 m ws ts h)
+        subst (λ n. Follows n (length ws) ts) (sym c.0) (step_good p.means (place_of p) p.to ps (good ps) c.1 c.2 m ws ts h)
 
   -- ---- the pieces of a cut
 

@@ -3,7 +3,7 @@ use Rattle.std.specs.Prelude.{ℕ, Bool, true, ◌||◌, ◌==◌, nat_lt, List,
 use Rattle.std.specs.List.{list_all, list_any}
 use Rattle.pyd_lex.specs.declared.fault.LexFault.{LexFault}
 use Rattle.pyd_lex.specs.declared.fault.LexFault.TheVariants as fault
-use Rattle.pyd_lex.specs.Lines.{Line, content, width, has_tab, is_comment_or_end, fault_at}
+use Rattle.pyd_lex.specs.Lines.{Line, content, width, has_tab, is_comment_or_end, fault_in}
 
 -- a line of width w may stand here: it is as wide as an open one, or wider than all
 abbrev pub may_stand : ℕ → List ℕ → Bool
@@ -19,7 +19,7 @@ is_blank_line l = elim (content l) [ [] ↦ true | p ∷ ps ↦ is_comment_or_en
 
 -- the number of the line in which a logical line's first piece is that isn't white space
 abbrev pub line_number : Line → ℕ
-line_number l = elim (content l) [ [] ↦ 0 | p ∷ ps ↦ p.at.line ]
+line_number l = elim (content l) [ [] ↦ 0 | p ∷ ps ↦ p.line ]
 
 -- what is wrong with a line's indentation; a tab comes first
 abbrev pub indentation_fault : List ℕ → Line → Option LexFault
@@ -35,7 +35,7 @@ opened_by l open_widths = if is_blank_line l then open_widths else opened (width
 -- the fault of the first piece that has a flaw
 abbrev pub flaw_fault : Line → Option LexFault
 flaw_fault [] = None
-flaw_fault (p ∷ ps) = elim (p.means) [ Err x ↦ Some (fault_at x p.at) | Ok s ↦ flaw_fault ps ]
+flaw_fault (p ∷ ps) = elim (p.means) [ Err x ↦ Some (fault_in x p.line) | Ok s ↦ flaw_fault ps ]
 
 abbrev pub or_else : Option LexFault → Option LexFault → Option LexFault
 or_else (Some f) g = Some f

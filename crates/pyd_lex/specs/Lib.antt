@@ -5,8 +5,12 @@ pub mod Spelling
 pub mod Ends
 pub mod Meaning
 pub mod Lines
-pub mod Scan
 pub mod Reads
+pub mod Stops
+pub mod Front
+pub mod Machine
+pub mod Steps
+pub mod Scanner
 pub mod Texts
 pub mod Faults
 pub mod Laws

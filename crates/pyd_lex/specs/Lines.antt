@@ -32,15 +32,19 @@ size z = length (encode_utf8_all z)
 abbrev pub after : Place → Text → Place
 after p z = record { at = p.at + size z; line = p.line + ends z }
 
--- what a piece means, where it begins and the byte after it
+-- what a piece means, its first byte, the byte after it and the line that it begins in
 pub record Piece : Type 0 where
   pub means : Judged
-  pub at : Place
+  pub from : ℕ
   pub to : ℕ
+  pub line : ℕ
+
+abbrev pub place_of : Piece → Place
+place_of p = record { at = p.from; line = p.line }
 
 abbrev pub placed : Place → List Text → List Piece
 placed p [] = []
-placed p (z ∷ zs) = record { means = meaning z; at = p; to = p.at + size z } ∷ placed (after p z) zs
+placed p (z ∷ zs) = record { means = meaning z; from = p.at; to = p.at + size z; line = p.line } ∷ placed (after p z) zs
 
 -- the place after all pieces
 abbrev pub end_of : Place → List Text → Place
@@ -100,7 +104,7 @@ abbrev pub empty_at : TokenKind → Place → Token
 empty_at k p = record { kind = k; from = p.at; to = p.at; line = p.line }
 
 abbrev pub token_at : TokenKind → Piece → Token
-token_at k p = record { kind = k; from = p.at.at; to = p.to; line = p.at.line }
+token_at k p = record { kind = k; from = p.from; to = p.to; line = p.line }
 
 abbrev pub fault_in : Flaw → ℕ → LexFault
 fault_in flaw.BadChar line = fault.BadChar line
@@ -108,9 +112,6 @@ fault_in flaw.BadName line = fault.BadName line
 fault_in flaw.BadNumber line = fault.BadNumber line
 fault_in flaw.WideNumber line = fault.WideNumber line
 fault_in flaw.BadString line = fault.BadString line
-
-abbrev pub fault_at : Flaw → Place → LexFault
-fault_at f p = fault_in f p.line
 
 abbrev pub token_if : Bool → Token → List Token
 token_if true t = t ∷ []
@@ -121,7 +122,7 @@ unfoldable pub tokens_of_pieces : Place → Bool → ℕ → Line → Answer →
 tokens_of_pieces end has_tokens depth [] later = ahead (token_if (has_tokens && (depth == 0)) (empty_at kind.Newline end)) later
 tokens_of_pieces end has_tokens depth (p ∷ ps) later =
     elim (p.means) [
-      | Err f ↦ Err (fault_at f p.at)
+      | Err f ↦ Err (fault_in f p.line)
       | Ok s ↦ elim s [
         | Spelled k ↦ ahead (token_if has_tokens (token_at k p)) (tokens_of_pieces end has_tokens (bracket depth k) ps later)
         | Break ↦ elim (depth == 0) [
@@ -187,8 +188,8 @@ tokens_of_line end (p ∷ ps) w tab ws later =
     elim (is_comment_or_end p.means) [
       | true ↦ tokens_of_pieces end false 0 (p ∷ ps) (later ws)
       | false ↦ elim tab [
-        | true ↦ Err (fault.Tab p.at.line)
-        | false ↦ indented w p.at ws (λ vs. tokens_of_pieces end true 0 (p ∷ ps) (later vs))
+        | true ↦ Err (fault.Tab p.line)
+        | false ↦ indented w (place_of p) ws (λ vs. tokens_of_pieces end true 0 (p ∷ ps) (later vs))
       ]
     ]
 

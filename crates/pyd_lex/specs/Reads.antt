@@ -2,10 +2,7 @@
 use Rattle.std.specs.Prelude.{◌≡◌, ℕ, Bool, ◌⊎◌, List, [], ◌∷◌, drop, Err, if◌then◌else◌}
 use Rattle.std.specs.Str.{IsUtf8, chars}
 use Rattle.std.specs.Str.Lossy.{utf8_valid_len}
-use Rattle.pyd_lex.specs.declared.fault.LexFault.{LexFault}
 use Rattle.pyd_lex.specs.declared.fault.LexFault.TheVariants.{Utf8}
-use Rattle.pyd_lex.specs.declared.fault.LexStop.{LexStop}
-use Rattle.pyd_lex.specs.declared.fault.LexStop.TheVariants.{Fault, NoMemory}
 use Rattle.pyd_lex.specs.declared.place.Place.{Place}
 use Rattle.pyd_lex.specs.Words.{Text, begins}
 use Rattle.pyd_lex.specs.Spelling.{IsCut}
@@ -35,8 +32,3 @@ TextReads z = CutReads (start z) (without_bom z)
 abbrev pub Reads : List ℕ → Answer → Type 0
 Reads bytes answer =
     ((IsUtf8 bytes → ⊥) × (answer ≡ Err (Utf8 (utf8_valid_len bytes)))) ⊎ (IsUtf8 bytes × TextReads (chars bytes) answer)
-
--- where the answer is a fault, and not want of memory
-abbrev pub IfFault : LexStop → (LexFault → Type 0) → Type 0
-IfFault (Fault f) P = P f
-IfFault NoMemory P = Unit {0}

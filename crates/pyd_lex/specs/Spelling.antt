@@ -22,6 +22,11 @@ word_class c = if is_ascii_digit c then Digit else (if c == 95 || is_xid_start c
 unfoldable pub class_of : ℕ → Class
 class_of c = if c == 13 then Return else (if c == 35 then Hash else (if c == 34 || c == 39 then Quote else word_class c))
 
+-- the text begins with a character of this class
+abbrev pub HasClass : Class → Text → Type 0
+HasClass k [] = ⊥
+HasClass k (c ∷ z) = class_of c ≡ k
+
 -- whether a first character of this class and the characters after it belong together
 unfoldable pub belong : Class → ℕ → Text → Bool
 belong Return c z = bytes_eq z [] || bytes_eq z (one 10)

@@ -6,12 +6,11 @@ use Rattle.pyd_lex.specs.declared.token.Shape.TheVariants as shape
 use Rattle.pyd_lex.specs.declared.token.Token.{Token}
 use Rattle.pyd_lex.specs.declared.token.TokenKind.{TokenKind}
 use Rattle.pyd_lex.specs.declared.token.TokenKind.TheVariants as kind
-use Rattle.pyd_lex.specs.declared.run.Class.{Class}
 use Rattle.pyd_lex.specs.declared.run.Class.TheVariants.{Quote, Letter}
 use Rattle.pyd_lex.specs.Words.{Text, keyword, mark_of}
 use Rattle.pyd_lex.specs.Numbers.{number}
 use Rattle.pyd_lex.specs.Strings.{string_flaw}
-use Rattle.pyd_lex.specs.Spelling.{class_of, is_piece}
+use Rattle.pyd_lex.specs.Spelling.{HasClass, class_of, is_piece}
 use Rattle.pyd_lex.specs.Meaning.{meaning, in_nfkc}
 use Rattle.pyd_lex.specs.Reads.{Reads}
 use Rattle.pyd_lex.specs.Texts.{spelling_of}
@@ -84,14 +83,9 @@ TokenBytes = (bytes : List ℕ) (ts : List Token) → Reads bytes (Ok ts) → Ar
 
 -- ---- what a token's characters are
 
--- the text begins with a character of this class
-abbrev pub IsFirstOf : Class → Text → Type 0
-IsFirstOf k [] = ⊥
-IsFirstOf k (c ∷ z) = class_of c ≡ k
-
 -- a name: it begins with a letter, is in NFKC, and no keyword
 pub record IsName (z : Text) : Type 0 where
-  pub first : IsFirstOf Letter z
+  pub first : HasClass Letter z
   pub normal : in_nfkc z ≡ true
   pub free : keyword z ≡ None
 

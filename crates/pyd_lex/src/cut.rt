@@ -1,9 +1,10 @@
 //! The piece at the front of a text.
 
 ghost use Rattle.std.specs.Prelude.{◌≡◌, ◌<◌, length, slice_index, IfOk, IfErr};
-ghost use Rattle.pyd_lex.specs.Spelling.{Extends};
+ghost use Rattle.pyd_lex.specs.Spelling.{Extends, HasClass};
 ghost use Rattle.pyd_lex.specs.Meaning.{spacing};
-ghost use Rattle.pyd_lex.specs.Scan.{IsGood, IsFlawed, IfFlaw, HasClass};
+ghost use Rattle.pyd_lex.specs.Front.{IsGood, IsFlawed};
+ghost use Rattle.pyd_lex.specs.Stops.{IfFlaw};
 
 use crate::TokenKind;
 use crate::fault::{Flaw, Stop};

@@ -9,6 +9,7 @@ mod mark;
 mod mode;
 mod name;
 mod number;
+mod piece;
 mod place;
 mod run;
 mod scan;

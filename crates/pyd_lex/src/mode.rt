@@ -2,7 +2,7 @@
 
 ghost use Rattle.std.specs.Prelude.{◌≡◌, ◌+◌, ◌-◌, ◌<◌, ◌≤◌, ◌^◌};
 ghost use Rattle.pyd_lex.specs.Lines.{bracket};
-ghost use Rattle.pyd_lex.specs.Scan.{count, indentation_after};
+ghost use Rattle.pyd_lex.specs.Machine.{count, indentation_after};
 
 use crate::token::Shape;
 use crate::{Mark, TokenKind};

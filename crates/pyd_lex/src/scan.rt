@@ -2,11 +2,13 @@
 
 ghost use Rattle.std.specs.Prelude.{◌≡◌, ◌+◌, ◌-◌, ◌<◌, ◌≤◌, ◌^◌, length, IfOk, IfErr, Ok, Err};
 ghost use Rattle.pyd_lex.specs.Lines.{size};
-ghost use Rattle.pyd_lex.specs.Reads.{Reads, CutReads, TextReads, IfFault, has_bom};
+ghost use Rattle.pyd_lex.specs.Reads.{Reads, CutReads, TextReads, has_bom};
+ghost use Rattle.pyd_lex.specs.Stops.{IfFault};
 
 use crate::Token;
 use crate::cut::front;
 use crate::fault::{LexFault, LexStop};
+use crate::piece::Piece;
 use crate::place::Place;
 use crate::scanner::Scanner;
 use crate::text::characters;
@@ -66,9 +68,15 @@ fn scanned(alloc: Global, start: Place, text: &[char]) -> Result<Vec<Token>, Lex
             Ok(piece) => piece,
             Err(stop) => return Err(scanner.stopped(stop, place)),
         };
-        let (piece, more) = rest.split_at(len);
-        let next = place.after(piece);
-        match scanner.step(shape, place, next) {
+        let (spelling, more) = rest.split_at(len);
+        let next = place.after(spelling);
+        let piece = Piece {
+            shape,
+            from: place.at,
+            to: next.at,
+            line: place.line,
+        };
+        match scanner.step(piece) {
             Ok(()) => {}
             Err(stop) => return Err(stop),
         }

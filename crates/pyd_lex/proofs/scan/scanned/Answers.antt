@@ -1,6 +1,6 @@
 use Rattle.std.proofs.Common.{◌∙◌, ap, reverse, refl, arith, Err}
 use Rattle.pyd_lex.specs.Lines.{after, size}
-use Rattle.pyd_lex.specs.Scan.{count}
+use Rattle.pyd_lex.specs.Machine.{count}
 use Rattle.pyd_lex.proofs.Steps.{reads_new, reads_more, reads_stop, reads_halt, map_fault, size_split, length_size, ends_length}
 use Rattle.pyd_lex.proofs.scan.scanned.Goals as goal
 

@@ -1,6 +1,7 @@
 use Rattle.std.proofs.Common.{◌≡◌, ◌+◌, ◌≤◌, length, reverse}
 use Rattle.pyd_lex.specs.Lines.{Answer, size}
-use Rattle.pyd_lex.specs.Scan.{count, ReadsFrom}
+use Rattle.pyd_lex.specs.Machine.{count}
+use Rattle.pyd_lex.specs.Steps.{ReadsFrom}
 use Rattle.pyd_lex.specs.Reads.{CutReads}
 use Rattle.pyd_lex.proofs.scan.scanned.Given as goal
 
