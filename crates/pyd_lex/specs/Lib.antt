@@ -2,7 +2,7 @@ pub mod Words
 pub mod Strings
 pub mod Numbers
 pub mod Spelling
-pub mod Ends
+pub mod Quoted
 pub mod Meaning
 pub mod Lines
 pub mod Reads

@@ -24,7 +24,7 @@ begun s = reverse s.widths.items
 abbrev pub as_piece : Scanned → Piece
 as_piece x = record { means = Ok x.shape; from = x.from; to = x.to; line = x.line }
 
--- the same with this token's kind
+-- the same as a token of this kind
 abbrev pub spelled : TokenKind → Scanned → Piece
 spelled k x = record { means = Ok (Spelled k); from = x.from; to = x.to; line = x.line }
 
@@ -41,6 +41,10 @@ pub record IsStep {T : Type 0} (m : Mode) (s t : Scanner) (x : Piece) (r : Resul
   pub ok : OnOk r (Took m s t x)
   pub fault : IfErr r (Halted m s x)
   pub within : OnOk r (count t.mode ≤ x.to)
+
+-- the same of a piece that is a token of this kind
+abbrev pub IsTokenStep : {T : Type 0} → Mode → Scanner → Scanner → TokenKind → Scanned → Result T LexStop → Type 0
+IsTokenStep m s t k x r = IsStep m s t (spelled k x) r
 
 -- the scanner has begun what was to be begun
 abbrev pub HasBegun : Scanner → ((List ℕ → Answer) → Answer) → Scanner → Type 0

@@ -124,23 +124,3 @@ string_flaw c z = flaw (spelled (is_triple c z) c) (rest_of (is_triple c z) z)
 abbrev pub string_value : Text → Text
 string_value [] = []
 string_value (c ∷ z) = value (spelled (is_triple c z) c) (rest_of (is_triple c z) z)
-
--- the first character of a value and the length of its spelling, where a plain character is at the front
-abbrev pub plain : Text → Option (ℕ × ℕ)
-plain [] = None
-plain (c ∷ []) = Some (if c == 13 then 10 else c, 1)
-plain (c ∷ d ∷ z) = if c == 13 then (if d == 10 then Some (10, 2) else Some (10, 1)) else Some (c, 1)
-
--- the same where a backslash is at the front
-abbrev pub escaped : Text → Option (ℕ × ℕ)
-escaped [] = None
-escaped (c ∷ []) = None
-escaped (c ∷ d ∷ z) = elim (escape d) [ None ↦ None | Some e ↦ Some (e, 2) ]
-
-abbrev pub first_of : Part → Text → Option (ℕ × ℕ)
-first_of Plain z = plain z
-first_of Backslash z = escaped z
-first_of p z = None
-
-abbrev pub first : Text → Text → Option (ℕ × ℕ)
-first quotes z = first_of (part quotes z) z

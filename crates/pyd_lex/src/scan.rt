@@ -18,7 +18,7 @@ use std::alloc::Global;
 pub fn tokens(alloc: Global, bytes: &[u8]) -> Result<Vec<Token>, LexStop>
     requires { length bytes.now < 2 ^ 32 - 1 }
     ensures ok { IfOk result (λ tokens. Reads bytes.now (Ok tokens.items)) }
-    ensures fault { IfErr result (λ stop. IfFault stop (λ fault. Reads bytes.now (Err fault))) }
+    ensures fault { IfErr result (λ stop. IfFault stop (λ f. Reads bytes.now (Err f))) }
 {
     let text = match str::from_utf8(bytes) {
         Ok(text) => text,
@@ -34,7 +34,7 @@ pub fn tokens(alloc: Global, bytes: &[u8]) -> Result<Vec<Token>, LexStop>
 fn after_bom(alloc: Global, text: &[char]) -> Result<Vec<Token>, LexStop>
     requires { size text.now < 2 ^ 32 - 1 }
     ensures ok { IfOk result (λ tokens. TextReads text.now (Ok tokens.items)) }
-    ensures fault { IfErr result (λ stop. IfFault stop (λ fault. TextReads text.now (Err fault))) }
+    ensures fault { IfErr result (λ stop. IfFault stop (λ f. TextReads text.now (Err f))) }
 {
     if has_bom(text) {
         let (_, rest) = text.split_at(1);
@@ -58,7 +58,7 @@ fn scanned(alloc: Global, start: Place, text: &[char]) -> Result<Vec<Token>, Lex
     requires at { start.at + size text.now < 2 ^ 32 - 1 }
     requires line { start.line ≤ start.at + 1 }
     ensures ok { IfOk result (λ tokens. CutReads start text.now (Ok tokens.items)) }
-    ensures fault { IfErr result (λ stop. IfFault stop (λ fault. CutReads start text.now (Err fault))) }
+    ensures fault { IfErr result (λ stop. IfFault stop (λ f. CutReads start text.now (Err f))) }
 {
     let mut scanner = Scanner::new(alloc);
     let mut place = start;

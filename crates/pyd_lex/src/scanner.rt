@@ -3,7 +3,7 @@
 ghost use Rattle.std.specs.Prelude.{◌≡◌, ◌<◌, ◌≤◌, ◌∷◌, [], false};
 ghost use Rattle.pyd_lex.specs.Lines.{token_if};
 ghost use Rattle.pyd_lex.specs.Machine.{count};
-ghost use Rattle.pyd_lex.specs.Scanner.{IsStep, Puts, as_piece, spelled};
+ghost use Rattle.pyd_lex.specs.Scanner.{IsStep, IsTokenStep, Puts, as_piece};
 
 use crate::fault::LexStop;
 use crate::mode::{Mode, bracketed, indentation_after};
@@ -69,7 +69,7 @@ impl Scanner {
         piece: Piece,
     ) -> Result<(), LexStop>
         requires room { piece.from < piece.to }
-        ensures { IsStep (Mode.Indentation width tab) self.old self.new (spelled kind piece) result }
+        ensures { IsTokenStep (Mode.Indentation width tab) self.old self.new kind piece result }
     {
         match self.begin(width, tab, piece.place()) {
             Ok(()) => {}
@@ -104,7 +104,7 @@ impl Scanner {
     ) -> Result<(), LexStop>
         requires room { piece.from < piece.to }
         requires within { depth ≤ piece.from }
-        ensures { IsStep (Mode.Inside depth has_tokens) self.old self.new (spelled kind piece) result }
+        ensures { IsTokenStep (Mode.Inside depth has_tokens) self.old self.new kind piece result }
     {
         self.mode = Mode::Inside {
             depth: bracketed(depth, kind),
