@@ -20,7 +20,7 @@ use Rattle.pyd_lex.specs.declared.token.TokenKind.TheVariants as kind
 use Rattle.pyd_lex.specs.declared.word.Word.{Word}
 use Rattle.pyd_lex.specs.Words.{Text, keyword, mark_of}
 use Rattle.pyd_lex.specs.Strings.{string_flaw}
-use Rattle.pyd_lex.specs.Numbers.{number, is_digits, radix, digits, amount, narrow, is_led, sized}
+use Rattle.pyd_lex.specs.Numbers.{number, is_digits, radix, digits, amount, narrow, has_leading_zero, sized}
 use Rattle.pyd_lex.specs.Spelling.{is_piece, class_of, IsCut}
 use Rattle.pyd_lex.specs.Meaning.{Judged, meaning, judged, as_token, ended, name, in_nfkc, known, spacing_or, marked}
 use Rattle.pyd_lex.specs.Lines.{Piece, Answer, ahead, lowered, indented, top, empty_at, token_at, token_if, bracket, closing, place_of, placed, end_of, size, after}
@@ -28,7 +28,7 @@ use Rattle.pyd_lex.specs.Machine.{run, started}
 use Rattle.pyd_lex.specs.Reads.{start, without_bom, has_bom}
 use Rattle.pyd_lex.specs.Texts.{spelling_of}
 use Rattle.pyd_lex.specs.Laws.{AreSpelled}
-use Rattle.pyd_lex.specs.TokenBytes.{IsWithin, AreInOrder, Spells, HasBytes, IsSpelled, IsEnd, HasText, AreEnded, is_indent, is_dedent, AreBalanced, TokenBytes, TokenTexts}
+use Rattle.pyd_lex.specs.TokenBytes.{IsWithin, AreInOrder, Spells, HasBytes, IsSpelled, IsEnd, HasText, AreEnded, is_indent, is_dedent, AreBalanced, TokenBytes, TokenTexts, IsName}
 use Rattle.pyd_lex.proofs.Lines.{run_reads, lowered_none, lowered_some, indented_is}
 use Rattle.pyd_lex.proofs.Steps.{size_split, bom_size, chars_size}
 use Rattle.pyd_lex.proofs.Spans.{spelled}
@@ -90,7 +90,7 @@ digits_text z false c o k i e = cc
 number_text : (z : Text) (k : TokenKind) → number z ≡ Ok k → HasText k z
 unfolding number
 number_text z k e =
-    let o = narrow (amount (radix z) 0 (digits z)) in digits_text z (is_digits (radix z) (digits z)) (is_led (radix z) z o) o k e e
+    let o = narrow (amount (radix z) 0 (digits z)) in digits_text z (is_digits (radix z) (digits z)) (has_leading_zero (radix z) z o) o k e e
 
 known_text : (c : ℕ) (z : Text) (o : Option Word) (k : TokenKind) → class_of c ≡ Letter → in_nfkc (c ∷ z) ≡ true → keyword (c ∷ z) ≡ o → as_kind (known o) ≡ Ok k → HasText k (c ∷ z)
 known_text c z None k l n w e = text_as (c ∷ z) kind.Name k (record { first = l; normal = n; free = w }) e
@@ -486,3 +486,11 @@ token_bytes bytes ts (inr x) =
       ended = f.ended;
       balanced = balance ts f.closes;
     }
+
+-- ---- names
+
+pub name_spells : (k : TokenKind) (b : List ℕ) → k ≡ kind.Name → HasBytes k b → Spells b (Spelled kind.Name)
+name_spells k b e h = subst (λ x. HasBytes x b) e h
+
+pub spelled_name : (k : TokenKind) (b : List ℕ) → k ≡ kind.Name → HasBytes k b → IsName (chars b)
+spelled_name k b e h = let s = name_spells k b e h in token_texts (chars b) kind.Name s.means

@@ -24,6 +24,7 @@ AnAnswer = (bytes : List ℕ) → (a : Answer) × Reads bytes a
 abbrev pub IsGoodPiece : Piece → Type 0
 IsGoodPiece p = (s : Shape) × (p.means ≡ Ok s)
 
+-- each piece has a meaning
 abbrev pub AreGood : List Piece → Type 0
 AreGood [] = Unit {0}
 AreGood (p ∷ ps) = IsGoodPiece p × AreGood ps
@@ -32,18 +33,23 @@ AreGood (p ∷ ps) = IsGoodPiece p × AreGood ps
 abbrev pub lines_of : Place → List Text → List Line
 lines_of p pieces = all_lines (lines 0 (placed p pieces))
 
--- the answer is a fault exactly where it is the first of the lines: the longest front part of the text
--- whose lines are indented rightly and whose pieces are good ends there
+-- a fault comes exactly at the end of the longest front part of the text whose pieces are good and
+-- whose lines are indented rightly
 abbrev pub FirstFault : Type 0
-FirstFault = (p : Place) (pieces : List Text) (f : LexFault) → read p pieces ≡ Err f ↔ first_fault (0 ∷ []) (lines_of p pieces) ≡ Some f
+FirstFault =
+    (p : Place) (pieces : List Text) (f : LexFault) →
+    read p pieces ≡ Err f ↔ first_fault (0 ∷ []) (lines_of p pieces) ≡ Some f
 
 -- the lines are all pieces, in their order
 abbrev pub LinesWhole : Type 0
-LinesWhole = (p : Place) (pieces : List Text) → flat_map (λ l. l) (lines_of p pieces) ≡ placed p pieces
+LinesWhole =
+    (p : Place) (pieces : List Text) → flat_map (λ l. l) (lines_of p pieces) ≡ placed p pieces
 
 -- tokens come only where all pieces are good
 abbrev pub AllGood : Type 0
-AllGood = (p : Place) (pieces : List Text) (ts : List Token) → read p pieces ≡ Ok ts → AreGood (placed p pieces)
+AllGood =
+    (p : Place) (pieces : List Text) (ts : List Token) →
+    read p pieces ≡ Ok ts → AreGood (placed p pieces)
 
 -- the bytes of each piece are the piece, in UTF-8
 abbrev pub AreSpelled : List ℕ → Place → List Text → Type 0

@@ -39,9 +39,11 @@ pub record Piece : Type 0 where
   pub to : ℕ
   pub line : ℕ
 
+-- where a piece begins
 abbrev pub place_of : Piece → Place
 place_of p = record { at = p.from; line = p.line }
 
+-- these pieces one after the other, from this place on
 abbrev pub placed : Place → List Text → List Piece
 placed p [] = []
 placed p (z ∷ zs) = record { means = meaning z; from = p.at; to = p.at + size z; line = p.line } ∷ placed (after p z) zs
@@ -61,6 +63,7 @@ bracket depth (kind.Mark RightParen) = depth - 1
 bracket depth (kind.Mark RightBracket) = depth - 1
 bracket depth k = depth
 
+-- the open brackets after a piece
 abbrev pub depth_after : ℕ → Judged → ℕ
 depth_after depth (Ok (Spelled k)) = bracket depth k
 depth_after depth j = depth
@@ -70,6 +73,7 @@ abbrev pub closes_line : ℕ → Judged → Bool
 closes_line depth (Ok Break) = depth == 0
 closes_line depth j = false
 
+-- a logical line: its pieces, with the line end that closes it
 abbrev pub Line : Type 0
 Line = List Piece
 
@@ -78,9 +82,11 @@ pub record Lines : Type 0 where
   pub first : Line
   pub others : List Line
 
+-- the lines in their order
 abbrev pub all_lines : Lines → List Line
 all_lines ls = ls.first ∷ ls.others
 
+-- a piece before these lines: a line of its own, or the first of the line that is begun
 abbrev pub joined : Bool → Piece → Lines → Lines
 joined true p ls = record { first = p ∷ []; others = all_lines ls }
 joined false p ls = record { first = p ∷ ls.first; others = ls.others }
@@ -92,6 +98,7 @@ lines depth (p ∷ ps) = joined (closes_line depth p.means) p (lines (depth_afte
 
 -- ---- the tokens of a line
 
+-- tokens, or a fault
 abbrev pub Answer : Type 0
 Answer = Result (List Token) LexFault
 
@@ -100,12 +107,15 @@ abbrev pub ahead : List Token → Answer → Answer
 ahead ts (Ok us) = Ok (ts ++ us)
 ahead ts (Err f) = Err f
 
+-- a token that no byte spells
 abbrev pub empty_at : TokenKind → Place → Token
 empty_at k p = record { kind = k; from = p.at; to = p.at; line = p.line }
 
+-- the token of this kind that a piece spells
 abbrev pub token_at : TokenKind → Piece → Token
 token_at k p = record { kind = k; from = p.from; to = p.to; line = p.line }
 
+-- the fault of a flaw in a line
 abbrev pub fault_in : Flaw → ℕ → LexFault
 fault_in flaw.BadChar line = fault.BadChar line
 fault_in flaw.BadName line = fault.BadName line
@@ -113,6 +123,7 @@ fault_in flaw.BadNumber line = fault.BadNumber line
 fault_in flaw.WideNumber line = fault.WideNumber line
 fault_in flaw.BadString line = fault.BadString line
 
+-- a token, where the test says so
 abbrev pub token_if : Bool → Token → List Token
 token_if true t = t ∷ []
 token_if false t = []
@@ -135,11 +146,13 @@ tokens_of_pieces end has_tokens depth (p ∷ ps) later =
       ]
     ]
 
+-- a space or a tab
 abbrev pub is_white_space : Judged → Bool
 is_white_space (Ok Space) = true
 is_white_space (Ok Tab) = true
 is_white_space j = false
 
+-- a tab
 abbrev pub is_tab : Judged → Bool
 is_tab (Ok Tab) = true
 is_tab j = false
@@ -149,16 +162,19 @@ abbrev pub width : Line → ℕ
 width [] = 0
 width (p ∷ ps) = if is_white_space p.means then 1 + width ps else 0
 
+-- whether a tab is among a line's leading white space
 abbrev pub has_tab : Line → Bool
 has_tab [] = false
 has_tab (p ∷ ps) = is_white_space p.means && (is_tab p.means || has_tab ps)
 
+-- a line from its first piece that isn't white space
 abbrev pub content : Line → Line
 content [] = []
 content (p ∷ ps) = if is_white_space p.means then content ps else p ∷ ps
 
 -- ---- widths
 
+-- the width of the innermost line that is begun, or 0
 abbrev pub top : List ℕ → ℕ
 top [] = 0
 top (w ∷ ws) = w

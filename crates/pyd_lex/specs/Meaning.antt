@@ -21,13 +21,16 @@ use Rattle.pyd_lex.specs.Spelling.{class_of}
 abbrev pub Judged : Type 0
 Judged = Result Shape Flaw
 
+-- a kind of token, as a piece
 abbrev pub as_token : Result TokenKind Flaw → Judged
 as_token (Ok k) = Ok (shape.Token k)
 as_token (Err f) = Err f
 
+-- whether the text is its own NFKC
 abbrev pub in_nfkc : Text → Bool
 in_nfkc z = bytes_eq (nfkc z) z
 
+-- a keyword, or else a name
 abbrev pub known : Option Word → TokenKind
 known None = kind.Name
 known (Some w) = kind.Word w
@@ -36,14 +39,17 @@ known (Some w) = kind.Word w
 unfoldable pub name : Text → Result TokenKind Flaw
 name z = if in_nfkc z then Ok (known (keyword z)) else Err BadName
 
+-- a string, where nothing is wrong with it
 abbrev pub ended : Option Flaw → Result TokenKind Flaw
 ended None = Ok kind.Str
 ended (Some f) = Err f
 
+-- a mark, or else a character that begins no token
 abbrev pub marked : Option Mark → Judged
 marked None = Err BadChar
 marked (Some m) = Ok (shape.Token (kind.Mark m))
 
+-- a space, a tab or a line feed
 abbrev pub spacing : ℕ → Option Shape
 spacing c =
     if c == 32 then Some shape.Space
@@ -51,10 +57,12 @@ spacing c =
     else (if c == 10 then Some shape.Break
     else None))
 
+-- spacing, or else a mark
 abbrev pub spacing_or : Option Shape → Option Mark → Judged
 spacing_or (Some s) m = Ok s
 spacing_or None m = marked m
 
+-- what a piece means that begins with another character
 abbrev pub other : ℕ → Option Mark → Judged
 other c m = spacing_or (spacing c) m
 

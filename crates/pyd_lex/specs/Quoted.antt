@@ -11,6 +11,7 @@ use Rattle.pyd_lex.specs.Strings.{inside, flaw, part, escape, spelled, string_fl
 use Rattle.pyd_lex.specs.declared.run.Class.TheVariants.{Quote}
 use Rattle.pyd_lex.specs.Spelling.{Extends, IsLast}
 
+-- the quotes as characters
 abbrev pub spelling : Quotes → Text
 spelling q = spelled q.triple q.quote
 
@@ -39,6 +40,7 @@ Steps quotes text (Skip k) = Skips quotes text k
 abbrev pub IsString : ℕ → Text → Option Flaw → ℕ → Type 0
 IsString c z f n = Extends Quote c z n × (string_flaw c (take n z) ≡ f)
 
+-- a string after its first quote has this flaw
 abbrev pub IsFlawedString : ℕ → Text → Flaw → Type 0
 IsFlawedString c z f = (n : ℕ) × Extends Quote c z n × (string_flaw c (take n z) ≡ Some f)
 
@@ -54,10 +56,12 @@ escaped [] = None
 escaped (c ∷ []) = None
 escaped (c ∷ d ∷ z) = elim (escape d) [ None ↦ None | Some e ↦ Some (e, 2) ]
 
+-- the first character of a value, by what is at the front
 abbrev pub first_of : Part → Text → Option (ℕ × ℕ)
 first_of Plain z = plain z
 first_of Backslash z = escaped z
 first_of p z = None
 
+-- the first character of a value and the length of its spelling
 abbrev pub first : Text → Text → Option (ℕ × ℕ)
 first quotes z = first_of (part quotes z) z

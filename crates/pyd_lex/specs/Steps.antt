@@ -31,6 +31,7 @@ Halts m ws p f = (end : Place) (ps : List Piece) → run end (p ∷ ps) m ws ≡
 abbrev pub good : Shape → Place → ℕ → Piece
 good s p to = record { means = Ok s; from = p.at; to = to; line = p.line }
 
+-- a flawed piece from a place to a byte
 abbrev pub bad : Flaw → Place → ℕ → Piece
 bad f p to = record { means = Err f; from = p.at; to = to; line = p.line }
 

@@ -7,6 +7,7 @@ use Rattle.pyd_lex.specs.declared.string.Part.{Part}
 use Rattle.pyd_lex.specs.declared.string.Part.TheVariants.{Close, Nul, Backslash, BareBreak, Plain}
 use Rattle.pyd_lex.specs.Words.{Text, begins}
 
+-- a line feed or a carriage return
 abbrev pub is_break : ℕ → Bool
 is_break c = c == 10 || c == 13
 
@@ -92,9 +93,11 @@ value quotes (c ∷ d ∷ z) =
       ]
     ]
 
+-- a quote alone
 abbrev pub one : ℕ → Text
 one c = c ∷ []
 
+-- a triple quote
 abbrev pub three : ℕ → Text
 three c = c ∷ c ∷ c ∷ []
 
@@ -106,9 +109,11 @@ is_triple c z = begins (c ∷ c ∷ []) z
 abbrev pub spelled : Bool → ℕ → Text
 spelled triple c = if triple then three c else one c
 
+-- how many quotes follow the first
 abbrev pub more : Bool → ℕ
 more triple = if triple then 2 else 0
 
+-- the text after them
 abbrev pub rest_of : Bool → Text → Text
 rest_of triple z = drop (more triple) z
 

@@ -43,9 +43,11 @@ HasBytes kind.Indent bytes = bytes ≡ []
 HasBytes kind.Dedent bytes = bytes ≡ []
 HasBytes kind.End bytes = bytes ≡ []
 
+-- the token's bytes are those of its kind
 abbrev pub IsSpelled : List ℕ → Token → Type 0
 IsSpelled bytes t = HasBytes t.kind (spelling_of bytes t.from t.to)
 
+-- the end of the source
 abbrev pub IsEnd : Token → Type 0
 IsEnd t = t.kind ≡ kind.End
 
@@ -58,9 +60,11 @@ pub record AreEnded (bytes : List ℕ) (ts : List Token) : Type 0 where
   pub at_end : last.from ≡ length bytes
   pub only : All (λ t. IsEnd t → ⊥) before
 
+-- whether the token is an INDENT
 abbrev pub is_indent : Token → Bool
 is_indent t = elim (t.kind) [ kind.Indent ↦ true | k ↦ false ]
 
+-- whether the token is a DEDENT
 abbrev pub is_dedent : Token → Bool
 is_dedent t = elim (t.kind) [ kind.Dedent ↦ true | k ↦ false ]
 

@@ -26,7 +26,7 @@ pub use laws::{
 };
 pub use mark::Mark;
 pub use scan::tokens;
-pub use text::text_of;
+pub use text::{name_of, text_of};
 pub use token::{Token, TokenKind};
 pub use word::Word;
 

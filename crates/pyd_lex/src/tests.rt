@@ -1,5 +1,6 @@
 //! Tokens and texts compared with CPython's, and the sources that have none.
 
+mod caller;
 mod refused;
 mod rows;
 
@@ -112,5 +113,21 @@ fn bytes_outside_utf8_come_first(rt: HostRuntime) -> Result<(), Fail> {
             "at {source:?}"
         );
     }
+    Ok(())
+}
+
+#[test]
+fn a_caller_reads_names(rt: HostRuntime) -> Result<(), Fail> {
+    let source = "if \u{f1} == x\u{30c}: 'x'".as_bytes();
+    let mut out = String::new(rt.alloc());
+    if let Ok(all) = tokens(rt.alloc(), source) {
+        for at in 0..all.len() {
+            if let Some(name) = caller::name_at(source, all.as_slice(), at) {
+                out.push_str(name)?;
+                out.push(' ')?;
+            }
+        }
+    }
+    assert_eq!(rt; out.as_str(), "\u{f1} x\u{30c} ");
     Ok(())
 }

@@ -6,9 +6,10 @@ ghost use Rattle.pyd_lex.specs.Strings as spec;
 ghost use Rattle.pyd_lex.specs.Quoted as quoted;
 ghost use Rattle.pyd_lex.specs.Quoted.{spelling};
 ghost use Rattle.pyd_lex.specs.Texts.{IsTextOf, spelling_of, utf8};
+ghost use Rattle.pyd_lex.specs.TokenBytes.{IsName, IsSpelled};
 
-use crate::Token;
 use crate::string::{Part, Quotes, escape, opening};
+use crate::{Token, TokenKind};
 use pyd_value::NoMemory;
 use std::alloc::{AllocError, Global};
 
@@ -22,6 +23,19 @@ pub fn text_of(alloc: Global, bytes: &[u8], token: &Token) -> Result<String, NoM
             value(alloc, text.as_slice())
         }
         Err(_) => Ok(String::new(alloc)),
+    }
+}
+
+/// The name that a name token of these bytes is. Takes no memory.
+pub fn name_of<'a>(bytes: &'a [u8], token: &Token) -> &'a str
+    requires kind { token.now.kind ≡ TokenKind.Name }
+    requires spelled { IsSpelled bytes.now token.now }
+    ensures bytes { result.now ≡ spelling_of bytes.entry.now token.now.from token.now.to }
+    ensures name { IsName (chars result.now) }
+{
+    match str::from_utf8(bytes_of(bytes, token)) {
+        Ok(name) => name,
+        Err(_) => "",
     }
 }
 
