@@ -15,7 +15,7 @@ abbrev pub count : Mode → ℕ
 count (Indentation width tab) = width
 count (Inside depth has_tokens) = depth
 
--- the mode after a piece in the margin that is no token
+-- the mode after a piece that is no token, where the line has none so far
 abbrev pub indentation_after : ℕ → Bool → Shape → Mode
 indentation_after width tab Space = Indentation (width + 1) tab
 indentation_after width tab Tab = Indentation (width + 1) true
@@ -33,7 +33,7 @@ abbrev pub started : Bool → ℕ → Place → List ℕ → (List ℕ → Answe
 started true w p ws next = Err (fault.Tab p.line)
 started false w p ws next = indented w p ws next
 
--- what the pieces say from this mode and these widths on
+-- the tokens of the pieces from this mode and these widths on, or the first fault
 unfoldable pub run : Place → List Piece → Mode → List ℕ → Answer
 run end [] mode ws = ahead (unfinished mode end) (Ok (closing end ws))
 run end (p ∷ ps) (Indentation width tab) ws =

@@ -35,7 +35,7 @@ good s p to = record { means = Ok s; from = p.at; to = to; line = p.line }
 abbrev pub bad : Flaw → Place → ℕ → Piece
 bad f p to = record { means = Err f; from = p.at; to = to; line = p.line }
 
--- what is left of the text says this, after these tokens
+-- what is left of the text has this answer, behind these tokens
 abbrev pub ReadsFrom : Place → Text → List Token → Mode → List ℕ → Answer → Type 0
 ReadsFrom p text ts m ws answer =
     (pieces : List Text) × IsCut text pieces × (ahead ts (run (end_of p pieces) (placed p pieces) m ws) ≡ answer)
