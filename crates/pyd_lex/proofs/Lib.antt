@@ -8,5 +8,6 @@ pub mod Steps
 pub mod Values
 pub mod Unique
 pub mod Spans
+pub mod TokenTexts
 pub mod TokenBytes
 pub mod Faults

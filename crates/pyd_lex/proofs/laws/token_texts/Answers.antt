@@ -1,4 +1,4 @@
-use Rattle.pyd_lex.proofs.TokenBytes.{token_texts}
+use Rattle.pyd_lex.proofs.TokenTexts.{token_texts}
 use Rattle.pyd_lex.proofs.laws.token_texts.Goals as goal
 
 pub returns : goal.returns
