@@ -4,7 +4,7 @@ use Rattle.std.proofs.lemmas.Bool.{cases_Bool}
 use Rattle.std.proofs.lemmas.Bool.Decides.{nat_tests}
 use Rattle.std.specs.Char.{digit_value}
 use Rattle.pyd_lex.specs.Words.{Text}
-use Rattle.pyd_lex.specs.Numbers.{amount, narrow, number, radix, digits, is_digits, led}
+use Rattle.pyd_lex.specs.Numbers.{amount, narrow, number, radix, digits, is_digits, checked}
 use Rattle.pyd_lex.specs.declared.fault.Flaw.TheVariants.{BadNumber}
 
 pub amount_first : (base n x : ℕ) (z : Text) → 1 ≤ length z → x ≡ get_or z 0 x → (x ≡ 95 → ⊥) → amount base n z ≡ amount base (n * base + digit_value x) (drop 1 z)
@@ -40,13 +40,13 @@ pub not_number : (z ds : Text) (base : ℕ) → base ≡ radix z → ds ≡ digi
 unfolding number
 not_number z ds base b d h =
     let e : is_digits (radix z) (digits z) ≡ false = (λ i. is_digits (sym b i) (sym d i)) ∙ h in
-    ap (λ t. if t then led (radix z) z (narrow (amount (radix z) 0 (digits z))) else Err BadNumber) e
+    ap (λ t. if t then checked (radix z) z (narrow (amount (radix z) 0 (digits z))) else Err BadNumber) e
 
-pub a_number : (z ds : Text) (base : ℕ) (a : Option ℕ) → base ≡ radix z → ds ≡ digits z → is_digits base ds ≡ true → a ≡ narrow (amount base 0 ds) → number z ≡ led base z a
+pub a_number : (z ds : Text) (base : ℕ) (a : Option ℕ) → base ≡ radix z → ds ≡ digits z → is_digits base ds ≡ true → a ≡ narrow (amount base 0 ds) → number z ≡ checked base z a
 unfolding number
 a_number z ds base a b d h n =
     let e : is_digits (radix z) (digits z) ≡ true = (λ i. is_digits (sym b i) (sym d i)) ∙ h in
-    ap (λ t. if t then led (radix z) z (narrow (amount (radix z) 0 (digits z))) else Err BadNumber) e ∙ (λ i. led (sym b i) z (narrow (amount (sym b i) 0 (sym d i)))) ∙ ap (led base z) (sym n)
+    ap (λ t. if t then checked (radix z) z (narrow (amount (radix z) 0 (digits z))) else Err BadNumber) e ∙ (λ i. checked (sym b i) z (narrow (amount (sym b i) 0 (sym d i)))) ∙ ap (checked base z) (sym n)
 
 pub is_so : {x : Bool} (r b : Bool) → r ≡ x → r ≡ b → x ≡ b
 is_so r b e f = sym e ∙ f

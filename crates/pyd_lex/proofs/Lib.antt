@@ -7,5 +7,7 @@ pub mod Pieces
 pub mod Steps
 pub mod Values
 pub mod Unique
-pub mod First
 pub mod Spans
+pub mod TokenTexts
+pub mod TokenBytes
+pub mod Faults

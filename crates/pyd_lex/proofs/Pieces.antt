@@ -18,11 +18,12 @@ use Rattle.pyd_lex.specs.declared.token.TokenKind.TheVariants as kind
 use Rattle.pyd_lex.specs.Words.{Text, begins, marks, mark_of, front_mark}
 use Rattle.pyd_lex.specs.Strings.{string_flaw}
 use Rattle.pyd_lex.specs.Numbers.{number}
-use Rattle.pyd_lex.specs.Spelling.{class_of, in_comment, continues, belong, IsLast, Extends, IsLongest}
-use Rattle.pyd_lex.specs.Meaning.{meaning, judged, as_token, name, ended, other, blank, blank_or, marked}
+use Rattle.pyd_lex.specs.Spelling.{class_of, in_comment, continues, belong, IsLast, Extends, IsLongest, HasClass}
+use Rattle.pyd_lex.specs.Meaning.{meaning, judged, as_token, name, ended, other, spacing, spacing_or, marked}
 use Rattle.pyd_lex.specs.declared.fault.Stop.{Stop}
 use Rattle.pyd_lex.specs.declared.fault.Stop.TheVariants as stop
-use Rattle.pyd_lex.specs.Scan.{IsGood, IsFlawed, IfFlaw, HasClass}
+use Rattle.pyd_lex.specs.Front.{IsGood, IsFlawed}
+use Rattle.pyd_lex.specs.Stops.{IfFlaw}
 use Rattle.pyd_lex.proofs.Words.{and_left, FrontRow, front_row, no_front, descending}
 use Rattle.pyd_lex.proofs.Spelling.{longest_from}
 
@@ -206,9 +207,9 @@ pub good_return : (text : Text) → HasClass Return text → begins (10 ∷ []) 
 good_return [] h b = absurd h
 good_return (c ∷ z) h b = return_only c z h b
 
-blank_front : (c : ℕ) (z : Text) (s : Shape) → blank c ≡ Some s → front_mark (c ∷ z) ≡ None
+spacing_front : (c : ℕ) (z : Text) (s : Shape) → spacing c ≡ Some s → front_mark (c ∷ z) ≡ None
 unfolding front_mark
-blank_front c z s h =
+spacing_front c z s h =
     elim (cases_Bool (c == 32)) [
       | inl t ↦ subst (λ x. front_mark (x ∷ z) ≡ None) (sym (eqb-true c 32 t)) refl
       | inr f ↦ elim (cases_Bool (c == 9)) [
@@ -220,35 +221,35 @@ blank_front c z s h =
       ]
     ]
 
-pub good_blank : (text : Text) (c : ℕ) (s : Shape) → HasClass Other text → c ≡ get_or text 0 0 → blank c ≡ Some s → IsGood text s 1
-good_blank [] c s h e b = absurd h
-good_blank (d ∷ z) c s h e b =
-    let k : blank d ≡ Some s = ap blank (sym e) ∙ b in
-    let f = blank_front d z s k in
+pub good_spacing : (text : Text) (c : ℕ) (s : Shape) → HasClass Other text → c ≡ get_or text 0 0 → spacing c ≡ Some s → IsGood text s 1
+good_spacing [] c s h e b = absurd h
+good_spacing (d ∷ z) c s h e b =
+    let k : spacing d ≡ Some s = ap spacing (sym e) ∙ b in
+    let f = spacing_front d z s k in
     record {
       longest = other_alone d z h f;
-      means = other_means d [] h ∙ ap (λ b. blank_or b (mark_of (d ∷ []))) k;
+      means = other_means d [] h ∙ ap (λ b. spacing_or b (mark_of (d ∷ []))) k;
       moves = omega arith;
     }
 
-pub good_mark : (text : Text) (c n : ℕ) (m : Mark) → HasClass Other text → c ≡ get_or text 0 0 → blank c ≡ None → front_mark text ≡ Some (n, m) → IsGood text (shape.Token (kind.Mark m)) n
+pub good_mark : (text : Text) (c n : ℕ) (m : Mark) → HasClass Other text → c ≡ get_or text 0 0 → spacing c ≡ None → front_mark text ≡ Some (n, m) → IsGood text (shape.Token (kind.Mark m)) n
 good_mark [] c n m h e b f = absurd h
 good_mark (d ∷ z) c zero m h e b f = absurd (let l = mark_moves (d ∷ z) zero m f in omega arith)
 good_mark (d ∷ z) c (suc n) m h e b f =
-    let k : blank d ≡ None = ap blank (sym e) ∙ b in
+    let k : spacing d ≡ None = ap spacing (sym e) ∙ b in
     let g = mark_here (d ∷ z) (suc n) m f in
     record {
       longest = mark_longest d z (suc n) m h f;
-      means = other_means d (take n z) h ∙ ap (λ b. blank_or b (mark_of (d ∷ take n z))) k ∙ ap marked g;
+      means = other_means d (take n z) h ∙ ap (λ b. spacing_or b (mark_of (d ∷ take n z))) k ∙ ap marked g;
       moves = omega arith;
     }
 
-pub flawed_other : (text : Text) (c : ℕ) → HasClass Other text → c ≡ get_or text 0 0 → blank c ≡ None → front_mark text ≡ None → IsFlawed text BadChar
+pub flawed_other : (text : Text) (c : ℕ) → HasClass Other text → c ≡ get_or text 0 0 → spacing c ≡ None → front_mark text ≡ None → IsFlawed text BadChar
 flawed_other [] c h e b f = absurd h
 flawed_other (d ∷ z) c h e b f =
-    let k : blank d ≡ None = ap blank (sym e) ∙ b in
+    let k : spacing d ≡ None = ap spacing (sym e) ∙ b in
     let g = no_mark d z f in
-    (1, other_alone d z h f, other_means d [] h ∙ ap (λ b. blank_or b (mark_of (d ∷ []))) k ∙ ap marked g)
+    (1, other_alone d z h f, other_means d [] h ∙ ap (λ b. spacing_or b (mark_of (d ∷ []))) k ∙ ap marked g)
 
 pub class_length : (k : Class) (text : Text) → HasClass k text → 0 < length text
 class_length k [] h = absurd h

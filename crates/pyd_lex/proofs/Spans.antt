@@ -9,11 +9,11 @@ use Rattle.pyd_lex.specs.declared.place.Place.{Place}
 use Rattle.pyd_lex.specs.Words.{Text}
 use Rattle.pyd_lex.specs.Spelling.{IsCut}
 use Rattle.pyd_lex.specs.Lines.{size, after}
-use Rattle.pyd_lex.specs.Reads.{is_marked, unmarked, start}
+use Rattle.pyd_lex.specs.Reads.{has_bom, without_bom, start}
 use Rattle.pyd_lex.specs.Texts.{spelling_of}
 use Rattle.pyd_lex.specs.Laws.{AreSpelled, Spelled}
 use Rattle.pyd_lex.proofs.Words.{and_left, and_right}
-use Rattle.pyd_lex.proofs.Steps.{mark_size}
+use Rattle.pyd_lex.proofs.Steps.{bom_bytes}
 
 both : (x y : Bool) → x ≡ true → y ≡ true → (x && y) ≡ true
 both x y e f = ap (λ t. t && y) e ∙ f
@@ -52,16 +52,16 @@ spans bytes front p text (z ∷ zs) e l s c =
       spans bytes (front ++ encode_utf8_all z) (after p z) rest zs (whole ∙ sym (append_assoc front (encode_utf8_all z) (encode_utf8_all rest))) (ap (λ m. m + size z) l ∙ sym (length-append front (encode_utf8_all z))) (scalars_drop n text s) c.2,
     )
 
-from_mark : (bytes : List ℕ) (text : Text) (pieces : List Text) (b : Bool) → encode_utf8_all text ≡ bytes → all_scalars text ≡ true → is_marked text ≡ b → IsCut (unmarked text) pieces → AreSpelled bytes (start text) pieces
-from_mark bytes text pieces false e s m c =
+from_bom : (bytes : List ℕ) (text : Text) (pieces : List Text) (b : Bool) → encode_utf8_all text ≡ bytes → all_scalars text ≡ true → has_bom text ≡ b → IsCut (without_bom text) pieces → AreSpelled bytes (start text) pieces
+from_bom bytes text pieces false e s m c =
     subst (λ t. AreSpelled bytes (record { at = if t then 3 else 0; line = 1 }) pieces) (sym m)
     (spans bytes [] (record { at = 0; line = 1 }) text pieces (sym e) refl s (subst (λ t. IsCut (if t then drop 1 text else text) pieces) m c))
-from_mark bytes [] pieces true e s m c = cc
-from_mark bytes (a ∷ z) pieces true e s m c =
+from_bom bytes [] pieces true e s m c = cc
+from_bom bytes (a ∷ z) pieces true e s m c =
     let k : 0xFEFF ≡ a = eqb-true 0xFEFF a (and_left (0xFEFF == a) true m) in
     let bytes_are : bytes ≡ encode_utf8_all (0xFEFF ∷ []) ++ encode_utf8_all z = sym e ∙ encodes_split 1 (a ∷ z) ∙ ap (λ x. encode_utf8_all (x ∷ []) ++ encode_utf8_all z) (sym k) in
     subst (λ t. AreSpelled bytes (record { at = if t then 3 else 0; line = 1 }) pieces) (sym m)
-    (spans bytes (encode_utf8_all (0xFEFF ∷ [])) (record { at = 3; line = 1 }) z pieces bytes_are (sym mark_size) (scalars_drop 1 (a ∷ z) s) (subst (λ t. IsCut (if t then z else a ∷ z) pieces) m c))
+    (spans bytes (encode_utf8_all (0xFEFF ∷ [])) (record { at = 3; line = 1 }) z pieces bytes_are (sym bom_bytes) (scalars_drop 1 (a ∷ z) s) (subst (λ t. IsCut (if t then z else a ∷ z) pieces) m c))
 
 pub spelled : Spelled
-spelled bytes pieces u c = from_mark bytes (chars bytes) pieces (is_marked (chars bytes)) (encodes-chars bytes u) (scalars-chars bytes u) refl c
+spelled bytes pieces u c = from_bom bytes (chars bytes) pieces (has_bom (chars bytes)) (encodes-chars bytes u) (scalars-chars bytes u) refl c

@@ -16,7 +16,7 @@ use Rattle.pyd_lex.specs.declared.fault.LexStop.{LexStop}
 use Rattle.pyd_lex.specs.declared.fault.LexStop.TheVariants as stop
 use Rattle.pyd_lex.specs.declared.place.Place.{Place}
 use Rattle.pyd_lex.specs.declared.mode.Mode.{Mode}
-use Rattle.pyd_lex.specs.declared.mode.Mode.TheVariants.{Margin, Inside}
+use Rattle.pyd_lex.specs.declared.mode.Mode.TheVariants.{Indentation, Inside}
 use Rattle.pyd_lex.specs.declared.token.Shape.{Shape}
 use Rattle.pyd_lex.specs.declared.token.Shape.TheVariants.{Space, Tab, Comment, Break, Token as Spelled}
 use Rattle.pyd_lex.specs.declared.token.Token.{Token}
@@ -25,9 +25,12 @@ use Rattle.pyd_lex.specs.declared.token.TokenKind.TheVariants as kind
 use Rattle.pyd_lex.specs.Words.{Text}
 use Rattle.pyd_lex.specs.Spelling.{IsCut, IsLongest}
 use Rattle.pyd_lex.specs.Meaning.{meaning}
-use Rattle.pyd_lex.specs.Lines.{Piece, Answer, ahead, shown, token_at, empty_at, fault_at, bracket, lowered, indented, top, closing, size, ends, is_end, after, placed, end_of}
-use Rattle.pyd_lex.specs.Scan.{run, started, unfinished, margin_after, Begins, Refuses, Takes, Halts, good, bad, SaysFrom, IsGood, IsFlawed, IfFlaw, IsFlaw}
-use Rattle.pyd_lex.specs.Reads.{Says, IfFault, is_marked}
+use Rattle.pyd_lex.specs.Lines.{Piece, Answer, ahead, token_if, token_at, empty_at, fault_in, bracket, lowered, indented, top, closing, size, ends, is_end, after, placed, end_of}
+use Rattle.pyd_lex.specs.Machine.{run, started, unfinished, indentation_after}
+use Rattle.pyd_lex.specs.Steps.{Begins, Refuses, Takes, Halts, good, bad, ReadsFrom}
+use Rattle.pyd_lex.specs.Front.{IsGood, IsFlawed}
+use Rattle.pyd_lex.specs.Stops.{IfFlaw, IsFlaw, IfFault}
+use Rattle.pyd_lex.specs.Reads.{CutReads, has_bom}
 use Rattle.pyd_lex.proofs.Lines.{ahead_nil, ahead_ahead, run_reads}
 use Rattle.pyd_lex.proofs.Spelling.{cut_exists}
 
@@ -140,75 +143,75 @@ top_slice xs ys e h =
 
 -- ---- a piece in the margin of a line
 
-module _ (ts : List Token) (w : ℕ) (tab : Bool) (ws : List ℕ) (p q : Place) where
-  pub take_margin : (s : Shape) (us : List Token) (vs : List ℕ) (m : Mode) → ((k : TokenKind) → s ≡ Spelled k → ⊥) → us ≡ ts → vs ≡ ws → m ≡ margin_after w tab s → Takes ts (Margin w tab) ws (good s p q) us m vs
+module _ (ts : List Token) (w : ℕ) (tab : Bool) (ws : List ℕ) (p : Place) (q : ℕ) where
+  pub take_indentation : (s : Shape) (us : List Token) (vs : List ℕ) (m : Mode) → ((k : TokenKind) → s ≡ Spelled k → ⊥) → us ≡ ts → vs ≡ ws → m ≡ indentation_after w tab s → Takes ts (Indentation w tab) ws (good s p q) us m vs
   unfolding run
-  take_margin Space us vs m h e f g end ps = λ i. ahead (sym e i) (run end ps (sym g i) (sym f i))
-  take_margin Tab us vs m h e f g end ps = λ i. ahead (sym e i) (run end ps (sym g i) (sym f i))
-  take_margin Comment us vs m h e f g end ps = λ i. ahead (sym e i) (run end ps (sym g i) (sym f i))
-  take_margin Break us vs m h e f g end ps = λ i. ahead (sym e i) (run end ps (sym g i) (sym f i))
-  take_margin (Spelled k) us vs m h e f g end ps = absurd (h k refl)
+  take_indentation Space us vs m h e f g end ps = λ i. ahead (sym e i) (run end ps (sym g i) (sym f i))
+  take_indentation Tab us vs m h e f g end ps = λ i. ahead (sym e i) (run end ps (sym g i) (sym f i))
+  take_indentation Comment us vs m h e f g end ps = λ i. ahead (sym e i) (run end ps (sym g i) (sym f i))
+  take_indentation Break us vs m h e f g end ps = λ i. ahead (sym e i) (run end ps (sym g i) (sym f i))
+  take_indentation (Spelled k) us vs m h e f g end ps = absurd (h k refl)
 
-  pub take_token : (us vs' : List Token) (vs : List ℕ) (k : TokenKind) → Begins ts (λ next. started tab w p ws next) us vs → vs' ≡ us ++ shown true (token_at k (good (Spelled k) p q)) → Takes ts (Margin w tab) ws (good (Spelled k) p q) vs' (Inside (bracket 0 k) true) vs
+  pub take_token : (us vs' : List Token) (vs : List ℕ) (k : TokenKind) → Begins ts (λ next. started tab w p ws next) us vs → vs' ≡ us ++ token_if true (token_at k (good (Spelled k) p q)) → Takes ts (Indentation w tab) ws (good (Spelled k) p q) vs' (Inside (bracket 0 k) true) vs
   unfolding run
   take_token us vs' vs k b e end ps =
       b (λ vs. ahead (token_at k (good (Spelled k) p q) ∷ []) (run end ps (Inside (bracket 0 k) true) vs)) ∙ ahead_ahead us (token_at k (good (Spelled k) p q) ∷ []) (run end ps (Inside (bracket 0 k) true) vs) ∙ ap (λ x. ahead x (run end ps (Inside (bracket 0 k) true) vs)) (sym e)
 
-  pub take_first : (us xs : List Token) (vs ys : List ℕ) (k : TokenKind) (m : Mode) → Begins ts (λ next. started tab w p ws next) us vs → xs ≡ us ++ shown true (token_at k (good (Spelled k) p q)) → ys ≡ vs → m ≡ Inside (bracket 0 k) true → Takes ts (Margin w tab) ws (good (Spelled k) p q) xs m ys
+  pub take_first : (us xs : List Token) (vs ys : List ℕ) (k : TokenKind) (m : Mode) → Begins ts (λ next. started tab w p ws next) us vs → xs ≡ us ++ token_if true (token_at k (good (Spelled k) p q)) → ys ≡ vs → m ≡ Inside (bracket 0 k) true → Takes ts (Indentation w tab) ws (good (Spelled k) p q) xs m ys
   take_first us xs vs ys k m b e f g end ps =
       take_token us xs vs k b e end ps ∙ (λ i. ahead xs (run end ps (sym g i) (sym f i)))
 
-  pub halt_token : (k : TokenKind) (f : LexFault) → Refuses (λ next. started tab w p ws next) f → Halts (Margin w tab) ws (good (Spelled k) p q) f
+  pub halt_token : (k : TokenKind) (f : LexFault) → Refuses (λ next. started tab w p ws next) f → Halts (Indentation w tab) ws (good (Spelled k) p q) f
   unfolding run
   halt_token k f r end ps = r (λ vs. ahead (token_at k (good (Spelled k) p q) ∷ []) (run end ps (Inside (bracket 0 k) true) vs))
 
-  pub halt_margin : (x : Wrong) (to : ℕ) (f : LexFault) → Refuses (λ next. started tab w p ws next) f → Halts (Margin w tab) ws (bad x p to) f
+  pub halt_indentation : (x : Wrong) (to : ℕ) (f : LexFault) → Refuses (λ next. started tab w p ws next) f → Halts (Indentation w tab) ws (bad x p to) f
   unfolding run
-  halt_margin x to f r end ps = r (λ vs. Err (fault_at x p))
+  halt_indentation x to f r end ps = r (λ vs. Err (fault_in x p.line))
 
-  pub halt_begun : (x : Wrong) (to : ℕ) (us : List Token) (vs : List ℕ) → Begins ts (λ next. started tab w p ws next) us vs → Halts (Margin w tab) ws (bad x p to) (fault_at x p)
+  pub halt_begun : (x : Wrong) (to : ℕ) (us : List Token) (vs : List ℕ) → Begins ts (λ next. started tab w p ws next) us vs → Halts (Indentation w tab) ws (bad x p to) (fault_in x p.line)
   unfolding run
-  halt_begun x to us vs b end ps = ahead_err ts (started tab w p ws (λ vs. Err (fault_at x p))) (fault_at x p) (b (λ vs. Err (fault_at x p)))
+  halt_begun x to us vs b end ps = ahead_err ts (started tab w p ws (λ vs. Err (fault_in x p.line))) (fault_in x p.line) (b (λ vs. Err (fault_in x p.line)))
 
 -- ---- a piece inside a line
 
-module _ (ts : List Token) (depth : ℕ) (loud : Bool) (ws : List ℕ) (p q : Place) where
-  pub take_inside : (us : List Token) (k : TokenKind) → us ≡ ts ++ shown loud (token_at k (good (Spelled k) p q)) → Takes ts (Inside depth loud) ws (good (Spelled k) p q) us (Inside (bracket depth k) loud) ws
+module _ (ts : List Token) (depth : ℕ) (has_tokens : Bool) (ws : List ℕ) (p : Place) (q : ℕ) where
+  pub take_inside : (us : List Token) (k : TokenKind) → us ≡ ts ++ token_if has_tokens (token_at k (good (Spelled k) p q)) → Takes ts (Inside depth has_tokens) ws (good (Spelled k) p q) us (Inside (bracket depth k) has_tokens) ws
   unfolding run
   take_inside us k e end ps =
-      ahead_ahead ts (shown loud (token_at k (good (Spelled k) p q))) (run end ps (Inside (bracket depth k) loud) ws) ∙ ap (λ x. ahead x (run end ps (Inside (bracket depth k) loud) ws)) (sym e)
+      ahead_ahead ts (token_if has_tokens (token_at k (good (Spelled k) p q))) (run end ps (Inside (bracket depth k) has_tokens) ws) ∙ ap (λ x. ahead x (run end ps (Inside (bracket depth k) has_tokens) ws)) (sym e)
 
-  pub take_end : (us : List Token) → depth ≡ 0 → us ≡ ts ++ shown loud (token_at kind.Newline (good Break p q)) → Takes ts (Inside depth loud) ws (good Break p q) us (Margin 0 false) ws
+  pub take_end : (us : List Token) → depth ≡ 0 → us ≡ ts ++ token_if has_tokens (token_at kind.Newline (good Break p q)) → Takes ts (Inside depth has_tokens) ws (good Break p q) us (Indentation 0 false) ws
   unfolding run
   take_end us d e end ps =
       let t : (depth == 0) ≡ true = grind (arith, nat_tests) in
-      rw (t, run) (ahead_ahead ts (shown loud (token_at kind.Newline (good Break p q))) (run end ps (Margin 0 false) ws) ∙ ap (λ x. ahead x (run end ps (Margin 0 false) ws)) (sym e))
+      rw (t, run) (ahead_ahead ts (token_if has_tokens (token_at kind.Newline (good Break p q))) (run end ps (Indentation 0 false) ws) ∙ ap (λ x. ahead x (run end ps (Indentation 0 false) ws)) (sym e))
 
-  pub take_joined : (depth ≡ 0 → ⊥) → Takes ts (Inside depth loud) ws (good Break p q) ts (Inside depth loud) ws
+  pub take_joined : (depth ≡ 0 → ⊥) → Takes ts (Inside depth has_tokens) ws (good Break p q) ts (Inside depth has_tokens) ws
   unfolding run
   take_joined d end ps =
       let t : (depth == 0) ≡ false = grind (arith, nat_tests) in
       rw (t, run) refl
 
-  pub take_blank : (s : Shape) (m : Mode) → ((k : TokenKind) → s ≡ Spelled k → ⊥) → (s ≡ Break → ⊥) → m ≡ Inside depth loud → Takes ts (Inside depth loud) ws (good s p q) ts m ws
+  pub take_spacing : (s : Shape) (m : Mode) → ((k : TokenKind) → s ≡ Spelled k → ⊥) → (s ≡ Break → ⊥) → m ≡ Inside depth has_tokens → Takes ts (Inside depth has_tokens) ws (good s p q) ts m ws
   unfolding run
-  take_blank Space m h k e end ps = ap (λ n. ahead ts (run end ps n ws)) (sym e)
-  take_blank Tab m h k e end ps = ap (λ n. ahead ts (run end ps n ws)) (sym e)
-  take_blank Comment m h k e end ps = ap (λ n. ahead ts (run end ps n ws)) (sym e)
-  take_blank Break m h k e end ps = absurd (k refl)
-  take_blank (Spelled t) m h k e end ps = absurd (h t refl)
+  take_spacing Space m h k e end ps = ap (λ n. ahead ts (run end ps n ws)) (sym e)
+  take_spacing Tab m h k e end ps = ap (λ n. ahead ts (run end ps n ws)) (sym e)
+  take_spacing Comment m h k e end ps = ap (λ n. ahead ts (run end ps n ws)) (sym e)
+  take_spacing Break m h k e end ps = absurd (k refl)
+  take_spacing (Spelled t) m h k e end ps = absurd (h t refl)
 
-  pub halt_inside : (x : Wrong) (to : ℕ) → Halts (Inside depth loud) ws (bad x p to) (fault_at x p)
+  pub halt_inside : (x : Wrong) (to : ℕ) → Halts (Inside depth has_tokens) ws (bad x p to) (fault_in x p.line)
   unfolding run
   halt_inside x to end ps = refl
 
-  pub take_inside_as : (us : List Token) (k : TokenKind) (vs : List ℕ) (m : Mode) → us ≡ ts ++ shown loud (token_at k (good (Spelled k) p q)) → vs ≡ ws → m ≡ Inside (bracket depth k) loud → Takes ts (Inside depth loud) ws (good (Spelled k) p q) us m vs
+  pub take_inside_as : (us : List Token) (k : TokenKind) (vs : List ℕ) (m : Mode) → us ≡ ts ++ token_if has_tokens (token_at k (good (Spelled k) p q)) → vs ≡ ws → m ≡ Inside (bracket depth k) has_tokens → Takes ts (Inside depth has_tokens) ws (good (Spelled k) p q) us m vs
   take_inside_as us k vs m e f g end ps = take_inside us k e end ps ∙ (λ i. ahead us (run end ps (sym g i) (sym f i)))
 
-  pub take_end_as : (us : List Token) (vs : List ℕ) → depth ≡ 0 → us ≡ ts ++ shown loud (token_at kind.Newline (good Break p q)) → vs ≡ ws → Takes ts (Inside depth loud) ws (good Break p q) us (Margin 0 false) vs
-  take_end_as us vs d e f end ps = take_end us d e end ps ∙ ap (λ v. ahead us (run end ps (Margin 0 false) v)) (sym f)
+  pub take_end_as : (us : List Token) (vs : List ℕ) (m : Mode) → depth ≡ 0 → us ≡ ts ++ token_if has_tokens (token_at kind.Newline (good Break p q)) → vs ≡ ws → m ≡ Indentation 0 false → Takes ts (Inside depth has_tokens) ws (good Break p q) us m vs
+  take_end_as us vs m d e f g end ps = take_end us d e end ps ∙ (λ i. ahead us (run end ps (sym g i) (sym f i)))
 
-  pub take_joined_as : (m : Mode) → m ≡ Inside depth loud → (depth ≡ 0 → ⊥) → Takes ts (Inside depth loud) ws (good Break p q) ts m ws
+  pub take_joined_as : (m : Mode) → m ≡ Inside depth has_tokens → (depth ≡ 0 → ⊥) → Takes ts (Inside depth has_tokens) ws (good Break p q) ts m ws
   take_joined_as m e d end ps = take_joined d end ps ∙ ap (λ n. ahead ts (run end ps n ws)) (sym e)
 
 -- ---- the end
@@ -234,23 +237,23 @@ ends_length (c ∷ z) =
 
 -- ---- the text that is left
 
-pub says_start : (p : Place) (text : Text) (answer : Answer) → SaysFrom p text [] (Margin 0 false) [] answer → Says p text answer
-says_start p text answer s = (s.0, s.1, sym (run_reads p s.0) ∙ sym (ahead_nil (run (end_of p s.0) (placed p s.0) (Margin 0 false) [])) ∙ s.2)
+pub reads_start : (p : Place) (text : Text) (answer : Answer) → ReadsFrom p text [] (Indentation 0 false) [] answer → CutReads p text answer
+reads_start p text answer s = (s.0, s.1, sym (run_reads p s.0) ∙ sym (ahead_nil (run (end_of p s.0) (placed p s.0) (Indentation 0 false) [])) ∙ s.2)
 
-pub says_new : (p : Place) (text : Text) (ts : List Token) (m : Mode) (ws : List ℕ) → ts ≡ [] → m ≡ Margin 0 false → ws ≡ [] → (answer : Answer) → SaysFrom p text ts m (reverse ws) answer → Says p text answer
-says_new p text ts m ws e f g answer s =
-    says_start p text answer (subst (λ x. SaysFrom p text x (Margin 0 false) [] answer) e (subst (λ n. SaysFrom p text ts n [] answer) f (subst (λ v. SaysFrom p text ts m (reverse v) answer) g s)))
+pub reads_new : (p : Place) (text : Text) (ts : List Token) (m : Mode) (ws : List ℕ) → ts ≡ [] → m ≡ Indentation 0 false → ws ≡ [] → (answer : Answer) → ReadsFrom p text ts m (reverse ws) answer → CutReads p text answer
+reads_new p text ts m ws e f g answer s =
+    reads_start p text answer (subst (λ x. ReadsFrom p text x (Indentation 0 false) [] answer) e (subst (λ n. ReadsFrom p text ts n [] answer) f (subst (λ v. ReadsFrom p text ts m (reverse v) answer) g s)))
 
 pub run_end : (end : Place) (m : Mode) (ws : List ℕ) (ts us vs : List Token) → us ≡ ts ++ unfinished m end → ahead us (Ok (closing end ws)) ≡ Ok vs → ahead ts (run end [] m ws) ≡ Ok vs
 unfolding run
 run_end end m ws ts us vs e h =
     ahead_ahead ts (unfinished m end) (Ok (closing end ws)) ∙ ap (λ x. ahead x (Ok (closing end ws))) (sym e) ∙ h
 
-pub says_end : (p : Place) (text : Text) (ts : List Token) (m : Mode) (ws : List ℕ) (answer : Answer) → text ≡ [] → ahead ts (run p [] m ws) ≡ answer → SaysFrom p text ts m ws answer
-says_end p text ts m ws answer e h = ([], e, h)
+pub reads_end : (p : Place) (text : Text) (ts : List Token) (m : Mode) (ws : List ℕ) (answer : Answer) → text ≡ [] → ahead ts (run p [] m ws) ≡ answer → ReadsFrom p text ts m ws answer
+reads_end p text ts m ws answer e h = ([], e, h)
 
-abbrev Heard : Place → Piece → List Piece → List Token → Mode → List ℕ → Answer
-Heard end x ps ts m ws = ahead ts (run end (x ∷ ps) m ws)
+abbrev Answered : Place → Piece → List Piece → List Token → Mode → List ℕ → Answer
+Answered end x ps ts m ws = ahead ts (run end (x ∷ ps) m ws)
 
 -- the longest piece at the front, and a cut of what is behind it, are a cut
 cut_more : (text : Text) (n : ℕ) (pieces : List Text) → IsLongest text n → IsCut (drop n text) pieces → IsCut text (take n text ∷ pieces)
@@ -258,47 +261,47 @@ cut_more text n pieces l c =
     let e : length (take n text) ≡ n = length-take-le n text l.within in
     subst (λ k. (take n text ≡ take k text) × IsLongest text k × IsCut (drop k text) pieces) (sym e) (refl, l, c)
 
-says_piece : (p : Place) (text : Text) (n : ℕ) (x : Piece) (pieces : List Text) (ts : List Token) (m : Mode) (ws : List ℕ) (answer : Answer) → IsLongest text n → IsCut (drop n text) pieces → x ≡ record { means = meaning (take n text); at = p; to = p.at + size (take n text) } → Heard (end_of (after p (take n text)) pieces) x (placed (after p (take n text)) pieces) ts m ws ≡ answer → SaysFrom p text ts m ws answer
-says_piece p text n x pieces ts m ws answer l c e h =
-    (take n text ∷ pieces, cut_more text n pieces l c, ap (λ y. Heard (end_of (after p (take n text)) pieces) y (placed (after p (take n text)) pieces) ts m ws) (sym e) ∙ h)
+reads_piece : (p : Place) (text : Text) (n : ℕ) (x : Piece) (pieces : List Text) (ts : List Token) (m : Mode) (ws : List ℕ) (answer : Answer) → IsLongest text n → IsCut (drop n text) pieces → x ≡ record { means = meaning (take n text); from = p.at; to = p.at + size (take n text); line = p.line } → Answered (end_of (after p (take n text)) pieces) x (placed (after p (take n text)) pieces) ts m ws ≡ answer → ReadsFrom p text ts m ws answer
+reads_piece p text n x pieces ts m ws answer l c e h =
+    (take n text ∷ pieces, cut_more text n pieces l c, ap (λ y. Answered (end_of (after p (take n text)) pieces) y (placed (after p (take n text)) pieces) ts m ws) (sym e) ∙ h)
 
-good_is : (p q : Place) (z : Text) (s : Shape) → meaning z ≡ Ok s → q ≡ after p z → good s p q ≡ record { means = meaning z; at = p; to = p.at + size z }
-good_is p q z s m e = λ i. record { means = sym m i; at = p; to = (e i).at }
+good_is : (p q : Place) (z : Text) (s : Shape) → meaning z ≡ Ok s → q ≡ after p z → good s p q.at ≡ record { means = meaning z; from = p.at; to = p.at + size z; line = p.line }
+good_is p q z s m e = λ i. record { means = sym m i; from = p.at; to = (e i).at; line = p.line }
 
-bad_is : (p : Place) (z : Text) (x : Wrong) → meaning z ≡ Err x → bad x p (p.at + size z) ≡ record { means = meaning z; at = p; to = p.at + size z }
-bad_is p z x m = λ i. record { means = sym m i; at = p; to = p.at + size z }
+bad_is : (p : Place) (z : Text) (x : Wrong) → meaning z ≡ Err x → bad x p (p.at + size z) ≡ record { means = meaning z; from = p.at; to = p.at + size z; line = p.line }
+bad_is p z x m = λ i. record { means = sym m i; from = p.at; to = p.at + size z; line = p.line }
 
-pub says_more : (p q : Place) (text rest : Text) (n : ℕ) (s : Shape) (ts us : List Token) (m k : Mode) (ws vs : List ℕ) → IsGood text s n → q ≡ after p (take n text) → rest ≡ drop n text → Takes ts m ws (good s p q) us k vs → (answer : Answer) → SaysFrom q rest us k vs answer → SaysFrom p text ts m ws answer
-says_more p q text rest n s ts us m k ws vs g e d t answer a =
-    let b : SaysFrom (after p (take n text)) (drop n text) us k vs answer = subst (λ y. SaysFrom (after p (take n text)) y us k vs answer) d (subst (λ r. SaysFrom r rest us k vs answer) e a) in
-    says_piece p text n (good s p q) b.0 ts m ws answer g.longest b.1 (good_is p q (take n text) s g.means e)
+pub reads_more : (p q : Place) (text rest : Text) (n : ℕ) (s : Shape) (ts us : List Token) (m k : Mode) (ws vs : List ℕ) → IsGood text s n → q ≡ after p (take n text) → rest ≡ drop n text → Takes ts m ws (good s p q.at) us k vs → (answer : Answer) → ReadsFrom q rest us k vs answer → ReadsFrom p text ts m ws answer
+reads_more p q text rest n s ts us m k ws vs g e d t answer a =
+    let b : ReadsFrom (after p (take n text)) (drop n text) us k vs answer = subst (λ y. ReadsFrom (after p (take n text)) y us k vs answer) d (subst (λ r. ReadsFrom r rest us k vs answer) e a) in
+    reads_piece p text n (good s p q.at) b.0 ts m ws answer g.longest b.1 (good_is p q (take n text) s g.means e)
     (t (end_of (after p (take n text)) b.0) (placed (after p (take n text)) b.0) ∙ b.2)
 
-pub says_flaw : (p : Place) (text : Text) (x : Wrong) (ts : List Token) (m : Mode) (ws : List ℕ) (f : LexFault) → IsFlawed text x → ((to : ℕ) → Halts m ws (bad x p to) f) → SaysFrom p text ts m ws (Err f)
-says_flaw p text x ts m ws f b h =
+pub reads_flaw : (p : Place) (text : Text) (x : Wrong) (ts : List Token) (m : Mode) (ws : List ℕ) (f : LexFault) → IsFlawed text x → ((to : ℕ) → Halts m ws (bad x p to) f) → ReadsFrom p text ts m ws (Err f)
+reads_flaw p text x ts m ws f b h =
     let z = take b.0 text in
     let c = cut_exists (drop b.0 text) in
-    says_piece p text b.0 (bad x p (p.at + size z)) c.0 ts m ws (Err f) b.1 c.1 (bad_is p z x b.2)
+    reads_piece p text b.0 (bad x p (p.at + size z)) c.0 ts m ws (Err f) b.1 c.1 (bad_is p z x b.2)
     (ap (ahead ts) (h (p.at + size z) (end_of (after p z) c.0) (placed (after p z) c.0)))
 
-pub says_halt : (p q : Place) (text : Text) (n : ℕ) (s : Shape) (ts : List Token) (m : Mode) (ws : List ℕ) (f : LexFault) → IsGood text s n → q ≡ after p (take n text) → Halts m ws (good s p q) f → SaysFrom p text ts m ws (Err f)
-says_halt p q text n s ts m ws f g e h =
+pub reads_halt : (p q : Place) (text : Text) (n : ℕ) (s : Shape) (ts : List Token) (m : Mode) (ws : List ℕ) (f : LexFault) → IsGood text s n → q ≡ after p (take n text) → Halts m ws (good s p q.at) f → ReadsFrom p text ts m ws (Err f)
+reads_halt p q text n s ts m ws f g e h =
     let c = cut_exists (drop n text) in
-    says_piece p text n (good s p q) c.0 ts m ws (Err f) g.longest c.1 (good_is p q (take n text) s g.means e)
+    reads_piece p text n (good s p q.at) c.0 ts m ws (Err f) g.longest c.1 (good_is p q (take n text) s g.means e)
     (ap (ahead ts) (h (end_of (after p (take n text)) c.0) (placed (after p (take n text)) c.0)))
 
 encodes_one : (c : ℕ) (z : Text) → size (c ∷ z) ≡ size (c ∷ []) + size z
 encodes_one c z = ap length (encodes-append (c ∷ []) z) ∙ length-append (encode_utf8_all (c ∷ [])) (encode_utf8_all z)
 
-pub mark_size : size (0xFEFF ∷ []) ≡ 3
+pub bom_bytes : size (0xFEFF ∷ []) ≡ 3
 unfolding lib.Utf8.encode
-mark_size = refl
+bom_bytes = refl
 
-pub marked_size : (text : Text) → is_marked text ≡ true → 3 + size (drop 1 text) ≡ size text
-marked_size [] h = cc
-marked_size (c ∷ z) h =
+pub bom_size : (text : Text) → has_bom text ≡ true → 3 + size (drop 1 text) ≡ size text
+bom_size [] h = cc
+bom_size (c ∷ z) h =
     let e : 0xFEFF ≡ c = eqb-true 0xFEFF c (and_left (0xFEFF == c) true h) in
-    subst (λ x. 3 + size z ≡ size (x ∷ z)) e (ap (λ n. n + size z) (sym mark_size) ∙ sym (encodes_one 0xFEFF z))
+    subst (λ x. 3 + size z ≡ size (x ∷ z)) e (ap (λ n. n + size z) (sym bom_bytes) ∙ sym (encodes_one 0xFEFF z))
 
 -- ---- an answer of a call that is handed on
 
@@ -323,9 +326,9 @@ if_err (Err e) P Q h p = h e p
 pub halts_as : (m n : Mode) (ws : List ℕ) (x : Piece) (f g : LexFault) → m ≡ n → f ≡ g → Halts n ws x g → Halts m ws x f
 halts_as m n ws x f g e h k end ps = ap (λ y. run end (x ∷ ps) y ws) e ∙ k end ps ∙ ap (λ y. Err y) (sym h)
 
-pub says_stop : (p : Place) (text : Text) (x : Stop) (ts : List Token) (m : Mode) (ws : List ℕ) (f : LexFault) → IfFlaw x (IsFlawed text) → IsFlaw x (λ y. (to : ℕ) → Halts m ws (bad y p to) f) → SaysFrom p text ts m ws (Err f)
-says_stop p text (Flaw y) ts m ws f b h = says_flaw p text y ts m ws f b h
-says_stop p text NoMemory ts m ws f b h = absurd h
+pub reads_stop : (p : Place) (text : Text) (x : Stop) (ts : List Token) (m : Mode) (ws : List ℕ) (f : LexFault) → IfFlaw x (IsFlawed text) → IsFlaw x (λ y. (to : ℕ) → Halts m ws (bad y p to) f) → ReadsFrom p text ts m ws (Err f)
+reads_stop p text (Flaw y) ts m ws f b h = reads_flaw p text y ts m ws f b h
+reads_stop p text NoMemory ts m ws f b h = absurd h
 
 pub chars_size : (bytes : List ℕ) → IsUtf8 bytes → size (chars bytes) ≡ length bytes
 chars_size bytes u = ap length (encodes-chars bytes u)

@@ -12,7 +12,7 @@ use Rattle.pyd_lex.specs.Words.{Text, begins}
 use Rattle.pyd_lex.specs.Strings.{part, part_of, inside, flaw, escape, one, three, is_triple, is_string, string_flaw, spelled, rest_of, more, is_break}
 use Rattle.pyd_lex.specs.declared.string.Quotes.{Quotes}
 use Rattle.pyd_lex.specs.Spelling.{IsLast, Extends, belong}
-use Rattle.pyd_lex.specs.Ends.{Ends, IsBroken, Skips, spelling}
+use Rattle.pyd_lex.specs.Quoted.{Ends, IsBroken, Skips, spelling}
 use Rattle.pyd_lex.proofs.Words.{and_left, and_right, not_begins_take, begins_longer, begins_front, begins_length, begins_itself, same_itself, differ_length}
 use Rattle.pyd_lex.proofs.Spelling.{last_exists}
 

@@ -2,11 +2,11 @@
 use Rattle.std.proofs.Common.{◌≡◌, ℕ, ◌≤◌, Bool, true, false, ◌==◌, List, [], ◌∷◌, length, drop, Option, Some, None, refl, sym, ap, subst, ◌∙◌, arith, if◌then◌else◌, ◌++◌, ◌<◌, get_or, encode_utf8_all, append_assoc, append-nil}
 use Rattle.std.specs.Prelude.{encode_utf8}
 use Rattle.pyd_lex.specs.declared.string.Quotes.{Quotes}
-use Rattle.pyd_lex.specs.Ends.{spelling}
+use Rattle.pyd_lex.specs.Quoted.{escaped, first, first_of, plain, spelling}
 use Rattle.pyd_lex.specs.declared.string.Part.{Part}
 use Rattle.pyd_lex.specs.declared.string.Part.TheVariants.{Close, Nul, Backslash, BareBreak, Plain}
 use Rattle.pyd_lex.specs.Words.{Text}
-use Rattle.pyd_lex.specs.Strings.{part, value, escape, plain, escaped, first_of, first, is_triple, spelled, more, string_value}
+use Rattle.pyd_lex.specs.Strings.{part, value, escape, is_triple, spelled, more, string_value}
 use Rattle.pyd_lex.proofs.Words.{some_is}
 
 -- the first character of a value, and how much of the text spells it

@@ -32,15 +32,21 @@ size z = length (encode_utf8_all z)
 abbrev pub after : Place → Text → Place
 after p z = record { at = p.at + size z; line = p.line + ends z }
 
--- what a piece means, where it begins and the byte after it
+-- what a piece means, its first byte, the byte after it and the line that it begins in
 pub record Piece : Type 0 where
   pub means : Judged
-  pub at : Place
+  pub from : ℕ
   pub to : ℕ
+  pub line : ℕ
 
+-- where a piece begins
+abbrev pub place_of : Piece → Place
+place_of p = record { at = p.from; line = p.line }
+
+-- these pieces one after the other, from this place on
 abbrev pub placed : Place → List Text → List Piece
 placed p [] = []
-placed p (z ∷ zs) = record { means = meaning z; at = p; to = p.at + size z } ∷ placed (after p z) zs
+placed p (z ∷ zs) = record { means = meaning z; from = p.at; to = p.at + size z; line = p.line } ∷ placed (after p z) zs
 
 -- the place after all pieces
 abbrev pub end_of : Place → List Text → Place
@@ -57,6 +63,7 @@ bracket depth (kind.Mark RightParen) = depth - 1
 bracket depth (kind.Mark RightBracket) = depth - 1
 bracket depth k = depth
 
+-- the open brackets after a piece
 abbrev pub depth_after : ℕ → Judged → ℕ
 depth_after depth (Ok (Spelled k)) = bracket depth k
 depth_after depth j = depth
@@ -66,6 +73,7 @@ abbrev pub closes_line : ℕ → Judged → Bool
 closes_line depth (Ok Break) = depth == 0
 closes_line depth j = false
 
+-- a logical line: its pieces, with the line end that closes it
 abbrev pub Line : Type 0
 Line = List Piece
 
@@ -74,9 +82,11 @@ pub record Lines : Type 0 where
   pub first : Line
   pub others : List Line
 
+-- the lines in their order
 abbrev pub all_lines : Lines → List Line
 all_lines ls = ls.first ∷ ls.others
 
+-- a piece before these lines: a line of its own, or the first of the line that is begun
 abbrev pub joined : Bool → Piece → Lines → Lines
 joined true p ls = record { first = p ∷ []; others = all_lines ls }
 joined false p ls = record { first = p ∷ ls.first; others = ls.others }
@@ -88,6 +98,7 @@ lines depth (p ∷ ps) = joined (closes_line depth p.means) p (lines (depth_afte
 
 -- ---- the tokens of a line
 
+-- tokens, or a fault
 abbrev pub Answer : Type 0
 Answer = Result (List Token) LexFault
 
@@ -96,12 +107,15 @@ abbrev pub ahead : List Token → Answer → Answer
 ahead ts (Ok us) = Ok (ts ++ us)
 ahead ts (Err f) = Err f
 
+-- a token that no byte spells
 abbrev pub empty_at : TokenKind → Place → Token
 empty_at k p = record { kind = k; from = p.at; to = p.at; line = p.line }
 
+-- the token of this kind that a piece spells
 abbrev pub token_at : TokenKind → Piece → Token
-token_at k p = record { kind = k; from = p.at.at; to = p.to; line = p.at.line }
+token_at k p = record { kind = k; from = p.from; to = p.to; line = p.line }
 
+-- the fault of a flaw in a line
 abbrev pub fault_in : Flaw → ℕ → LexFault
 fault_in flaw.BadChar line = fault.BadChar line
 fault_in flaw.BadName line = fault.BadName line
@@ -109,55 +123,58 @@ fault_in flaw.BadNumber line = fault.BadNumber line
 fault_in flaw.WideNumber line = fault.WideNumber line
 fault_in flaw.BadString line = fault.BadString line
 
-abbrev pub fault_at : Flaw → Place → LexFault
-fault_at f p = fault_in f p.line
+-- a token, where the test says so
+abbrev pub token_if : Bool → Token → List Token
+token_if true t = t ∷ []
+token_if false t = []
 
-abbrev pub shown : Bool → Token → List Token
-shown true t = t ∷ []
-shown false t = []
-
--- the pieces of a line from its first that isn't blank; `loud` where the line has tokens to show
-unfoldable pub said : Place → Bool → ℕ → Line → Answer → Answer
-said end loud depth [] later = ahead (shown (loud && (depth == 0)) (empty_at kind.Newline end)) later
-said end loud depth (p ∷ ps) later =
+-- the tokens of a line's pieces from its first that isn't white space; a blank line has none
+unfoldable pub tokens_of_pieces : Place → Bool → ℕ → Line → Answer → Answer
+tokens_of_pieces end has_tokens depth [] later = ahead (token_if (has_tokens && (depth == 0)) (empty_at kind.Newline end)) later
+tokens_of_pieces end has_tokens depth (p ∷ ps) later =
     elim (p.means) [
-      | Err f ↦ Err (fault_at f p.at)
+      | Err f ↦ Err (fault_in f p.line)
       | Ok s ↦ elim s [
-        | Spelled k ↦ ahead (shown loud (token_at k p)) (said end loud (bracket depth k) ps later)
+        | Spelled k ↦ ahead (token_if has_tokens (token_at k p)) (tokens_of_pieces end has_tokens (bracket depth k) ps later)
         | Break ↦ elim (depth == 0) [
-          | true ↦ ahead (shown loud (token_at kind.Newline p)) later
-          | false ↦ said end loud depth ps later
+          | true ↦ ahead (token_if has_tokens (token_at kind.Newline p)) later
+          | false ↦ tokens_of_pieces end has_tokens depth ps later
         ]
-        | Space ↦ said end loud depth ps later
-        | Tab ↦ said end loud depth ps later
-        | Comment ↦ said end loud depth ps later
+        | Space ↦ tokens_of_pieces end has_tokens depth ps later
+        | Tab ↦ tokens_of_pieces end has_tokens depth ps later
+        | Comment ↦ tokens_of_pieces end has_tokens depth ps later
       ]
     ]
 
-abbrev pub is_blank : Judged → Bool
-is_blank (Ok Space) = true
-is_blank (Ok Tab) = true
-is_blank j = false
+-- a space or a tab
+abbrev pub is_white_space : Judged → Bool
+is_white_space (Ok Space) = true
+is_white_space (Ok Tab) = true
+is_white_space j = false
 
+-- a tab
 abbrev pub is_tab : Judged → Bool
 is_tab (Ok Tab) = true
 is_tab j = false
 
--- the blanks before a line's first piece that isn't blank
+-- the spaces and tabs before a line's first other piece
 abbrev pub width : Line → ℕ
 width [] = 0
-width (p ∷ ps) = if is_blank p.means then 1 + width ps else 0
+width (p ∷ ps) = if is_white_space p.means then 1 + width ps else 0
 
+-- whether a tab is among a line's leading white space
 abbrev pub has_tab : Line → Bool
 has_tab [] = false
-has_tab (p ∷ ps) = is_blank p.means && (is_tab p.means || has_tab ps)
+has_tab (p ∷ ps) = is_white_space p.means && (is_tab p.means || has_tab ps)
 
+-- a line from its first piece that isn't white space
 abbrev pub content : Line → Line
 content [] = []
-content (p ∷ ps) = if is_blank p.means then content ps else p ∷ ps
+content (p ∷ ps) = if is_white_space p.means then content ps else p ∷ ps
 
 -- ---- widths
 
+-- the width of the innermost line that is begun, or 0
 abbrev pub top : List ℕ → ℕ
 top [] = 0
 top (w ∷ ws) = w
@@ -174,21 +191,21 @@ unfoldable pub indented : ℕ → Place → List ℕ → (List ℕ → Answer) �
 indented w p ws next =
     if nat_lt (top ws) w then ahead (empty_at kind.Indent p ∷ []) (next (w ∷ ws)) else lowered w p ws next
 
--- a line that has only blanks and a comment
-abbrev pub is_silent : Judged → Bool
-is_silent (Ok Comment) = true
-is_silent (Ok Break) = true
-is_silent j = false
+-- what a blank line goes on with after its white space
+abbrev pub is_comment_or_end : Judged → Bool
+is_comment_or_end (Ok Comment) = true
+is_comment_or_end (Ok Break) = true
+is_comment_or_end j = false
 
 -- a line's tokens by its width, whether a tab is before its first token, and what comes from there on
-unfoldable pub line_said : Place → Line → ℕ → Bool → List ℕ → (List ℕ → Answer) → Answer
-line_said end [] w tab ws later = later ws
-line_said end (p ∷ ps) w tab ws later =
-    elim (is_silent p.means) [
-      | true ↦ said end false 0 (p ∷ ps) (later ws)
+unfoldable pub tokens_of_line : Place → Line → ℕ → Bool → List ℕ → (List ℕ → Answer) → Answer
+tokens_of_line end [] w tab ws later = later ws
+tokens_of_line end (p ∷ ps) w tab ws later =
+    elim (is_comment_or_end p.means) [
+      | true ↦ tokens_of_pieces end false 0 (p ∷ ps) (later ws)
       | false ↦ elim tab [
-        | true ↦ Err (fault.Tab p.at.line)
-        | false ↦ indented w p.at ws (λ vs. said end true 0 (p ∷ ps) (later vs))
+        | true ↦ Err (fault.Tab p.line)
+        | false ↦ indented w (place_of p) ws (λ vs. tokens_of_pieces end true 0 (p ∷ ps) (later vs))
       ]
     ]
 
@@ -198,10 +215,10 @@ closing end [] = empty_at kind.End end ∷ []
 closing end (w ∷ ws) = empty_at kind.Dedent end ∷ closing end ws
 
 -- the tokens of these lines under these widths, or the first fault
-unfoldable pub laid : Place → List Line → List ℕ → Answer
-laid end [] ws = Ok (closing end ws)
-laid end (l ∷ ls) ws = line_said end (content l) (width l) (has_tab l) ws (laid end ls)
+unfoldable pub tokens_of_lines : Place → List Line → List ℕ → Answer
+tokens_of_lines end [] ws = Ok (closing end ws)
+tokens_of_lines end (l ∷ ls) ws = tokens_of_line end (content l) (width l) (has_tab l) ws (tokens_of_lines end ls)
 
--- what the pieces from this place on say
+-- the tokens of these pieces from this place on, or the first fault
 unfoldable pub read : Place → List Text → Answer
-read p zs = laid (end_of p zs) (all_lines (lines 0 (placed p zs))) []
+read p zs = tokens_of_lines (end_of p zs) (all_lines (lines 0 (placed p zs))) []

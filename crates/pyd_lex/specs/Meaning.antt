@@ -21,13 +21,16 @@ use Rattle.pyd_lex.specs.Spelling.{class_of}
 abbrev pub Judged : Type 0
 Judged = Result Shape Flaw
 
+-- a kind of token, as a piece
 abbrev pub as_token : Result TokenKind Flaw → Judged
 as_token (Ok k) = Ok (shape.Token k)
 as_token (Err f) = Err f
 
+-- whether the text is its own NFKC
 abbrev pub in_nfkc : Text → Bool
 in_nfkc z = bytes_eq (nfkc z) z
 
+-- a keyword, or else a name
 abbrev pub known : Option Word → TokenKind
 known None = kind.Name
 known (Some w) = kind.Word w
@@ -36,27 +39,32 @@ known (Some w) = kind.Word w
 unfoldable pub name : Text → Result TokenKind Flaw
 name z = if in_nfkc z then Ok (known (keyword z)) else Err BadName
 
+-- a string, where nothing is wrong with it
 abbrev pub ended : Option Flaw → Result TokenKind Flaw
 ended None = Ok kind.Str
 ended (Some f) = Err f
 
+-- a mark, or else a character that begins no token
 abbrev pub marked : Option Mark → Judged
 marked None = Err BadChar
 marked (Some m) = Ok (shape.Token (kind.Mark m))
 
-abbrev pub blank : ℕ → Option Shape
-blank c =
+-- a space, a tab or a line feed
+abbrev pub spacing : ℕ → Option Shape
+spacing c =
     if c == 32 then Some shape.Space
     else (if c == 9 then Some shape.Tab
     else (if c == 10 then Some shape.Break
     else None))
 
-abbrev pub blank_or : Option Shape → Option Mark → Judged
-blank_or (Some s) m = Ok s
-blank_or None m = marked m
+-- spacing, or else a mark
+abbrev pub spacing_or : Option Shape → Option Mark → Judged
+spacing_or (Some s) m = Ok s
+spacing_or None m = marked m
 
+-- what a piece means that begins with another character
 abbrev pub other : ℕ → Option Mark → Judged
-other c m = blank_or (blank c) m
+other c m = spacing_or (spacing c) m
 
 -- what a piece with this first character means
 unfoldable pub judged : Class → ℕ → Text → Judged

@@ -16,6 +16,7 @@ radix_of x =
     else (if x == 98 || x == 66 then 2
     else 10))
 
+-- the base of a literal
 abbrev pub radix : Text → ℕ
 radix [] = 10
 radix (c ∷ []) = 10
@@ -26,13 +27,13 @@ abbrev pub digits : Text → Text
 digits z = if radix z == 10 then z else drop 2 z
 
 -- each digit stands alone or after one underscore
-abbrev pub is_spread : ℕ → Text → Bool
-is_spread base [] = true
-is_spread base (c ∷ []) = not (c == 95) && is_digit c base
-is_spread base (c ∷ d ∷ z) =
+abbrev pub has_single_underscores : ℕ → Text → Bool
+has_single_underscores base [] = true
+has_single_underscores base (c ∷ []) = not (c == 95) && is_digit c base
+has_single_underscores base (c ∷ d ∷ z) =
     elim (c == 95) [
-      | true ↦ is_digit d base && is_spread base z
-      | false ↦ is_digit c base && is_spread base (d ∷ z)
+      | true ↦ is_digit d base && has_single_underscores base z
+      | false ↦ is_digit c base && has_single_underscores base (d ∷ z)
     ]
 
 -- the value of the digits after those of value n
@@ -40,29 +41,33 @@ abbrev pub amount : ℕ → ℕ → Text → ℕ
 amount base n [] = n
 amount base n (c ∷ z) = amount base (if c == 95 then n else n * base + digit_value c) z
 
+-- digits of this base, at least one
 abbrev pub is_digits : ℕ → Text → Bool
-is_digits base z = not (bytes_eq z []) && is_spread base z
+is_digits base z = not (bytes_eq z []) && has_single_underscores base z
 
 -- a value that the widest integer isn't below
 abbrev pub narrow : ℕ → Option ℕ
 narrow n = if nat_lt n (2 ^ 127) then Some n else None
 
+-- whether the value is there, and 0
 abbrev pub is_zero : Option ℕ → Bool
 is_zero (Some n) = n == 0
 is_zero None = false
 
 -- a decimal that begins with a zero and isn't zeros only
-abbrev pub is_led : ℕ → Text → Option ℕ → Bool
-is_led base z n = base == 10 && begins (48 ∷ []) z && not (is_zero n)
+abbrev pub has_leading_zero : ℕ → Text → Option ℕ → Bool
+has_leading_zero base z n = base == 10 && begins (48 ∷ []) z && not (is_zero n)
 
+-- the integer of this value, where it is within the widest
 abbrev pub sized : Option ℕ → Result TokenKind Flaw
 sized None = Err WideNumber
 sized (Some n) = Ok (Int (pos n))
 
-abbrev pub led : ℕ → Text → Option ℕ → Result TokenKind Flaw
-led base z n = if is_led base z n then Err BadNumber else sized n
+-- the same of a literal that has no leading zero, unless it is zeros only
+abbrev pub checked : ℕ → Text → Option ℕ → Result TokenKind Flaw
+checked base z n = if has_leading_zero base z n then Err BadNumber else sized n
 
 -- the literal's value, or what is wrong with it
 unfoldable pub number : Text → Result TokenKind Flaw
 number z =
-    if is_digits (radix z) (digits z) then led (radix z) z (narrow (amount (radix z) 0 (digits z))) else Err BadNumber
+    if is_digits (radix z) (digits z) then checked (radix z) z (narrow (amount (radix z) 0 (digits z))) else Err BadNumber

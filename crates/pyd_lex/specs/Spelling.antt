@@ -9,18 +9,26 @@ use Rattle.pyd_lex.specs.declared.run.Class.TheVariants.{Return, Hash, Quote, Di
 use Rattle.pyd_lex.specs.Words.{Text, mark_of}
 use Rattle.pyd_lex.specs.Strings.{one, is_string}
 
+-- a comment may have this character
 abbrev pub in_comment : ℕ → Bool
 in_comment c = not (c == 0) && not (c == 10) && not (c == 13)
 
+-- a name may go on with this character
 abbrev pub continues : ℕ → Bool
 continues = is_xid_continue
 
+-- a digit, or a letter that begins a name
 abbrev pub word_class : ℕ → Class
 word_class c = if is_ascii_digit c then Digit else (if c == 95 || is_xid_start c then Letter else Other)
 
 -- what a character begins
 unfoldable pub class_of : ℕ → Class
 class_of c = if c == 13 then Return else (if c == 35 then Hash else (if c == 34 || c == 39 then Quote else word_class c))
+
+-- the text begins with a character of this class
+abbrev pub HasClass : Class → Text → Type 0
+HasClass k [] = ⊥
+HasClass k (c ∷ z) = class_of c ≡ k
 
 -- whether a first character of this class and the characters after it belong together
 unfoldable pub belong : Class → ℕ → Text → Bool

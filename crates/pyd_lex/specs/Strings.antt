@@ -7,6 +7,7 @@ use Rattle.pyd_lex.specs.declared.string.Part.{Part}
 use Rattle.pyd_lex.specs.declared.string.Part.TheVariants.{Close, Nul, Backslash, BareBreak, Plain}
 use Rattle.pyd_lex.specs.Words.{Text, begins}
 
+-- a line feed or a carriage return
 abbrev pub is_break : ℕ → Bool
 is_break c = c == 10 || c == 13
 
@@ -92,9 +93,11 @@ value quotes (c ∷ d ∷ z) =
       ]
     ]
 
+-- a quote alone
 abbrev pub one : ℕ → Text
 one c = c ∷ []
 
+-- a triple quote
 abbrev pub three : ℕ → Text
 three c = c ∷ c ∷ c ∷ []
 
@@ -106,9 +109,11 @@ is_triple c z = begins (c ∷ c ∷ []) z
 abbrev pub spelled : Bool → ℕ → Text
 spelled triple c = if triple then three c else one c
 
+-- how many quotes follow the first
 abbrev pub more : Bool → ℕ
 more triple = if triple then 2 else 0
 
+-- the text after them
 abbrev pub rest_of : Bool → Text → Text
 rest_of triple z = drop (more triple) z
 
@@ -124,23 +129,3 @@ string_flaw c z = flaw (spelled (is_triple c z) c) (rest_of (is_triple c z) z)
 abbrev pub string_value : Text → Text
 string_value [] = []
 string_value (c ∷ z) = value (spelled (is_triple c z) c) (rest_of (is_triple c z) z)
-
--- the first character of a value and the length of its spelling, where a plain character is at the front
-abbrev pub plain : Text → Option (ℕ × ℕ)
-plain [] = None
-plain (c ∷ []) = Some (if c == 13 then 10 else c, 1)
-plain (c ∷ d ∷ z) = if c == 13 then (if d == 10 then Some (10, 2) else Some (10, 1)) else Some (c, 1)
-
--- the same where a backslash is at the front
-abbrev pub escaped : Text → Option (ℕ × ℕ)
-escaped [] = None
-escaped (c ∷ []) = None
-escaped (c ∷ d ∷ z) = elim (escape d) [ None ↦ None | Some e ↦ Some (e, 2) ]
-
-abbrev pub first_of : Part → Text → Option (ℕ × ℕ)
-first_of Plain z = plain z
-first_of Backslash z = escaped z
-first_of p z = None
-
-abbrev pub first : Text → Text → Option (ℕ × ℕ)
-first quotes z = first_of (part quotes z) z

@@ -16,12 +16,12 @@ begins [] z = true
 begins (a ∷ s) [] = false
 begins (a ∷ s) (b ∷ z) = (a == b) && begins s z
 
--- what the first row with this very spelling says
+-- what the first row with this very spelling has
 abbrev pub first_same : {X : Type 0} → List (Text × X) → Text → Option X
 first_same [] z = None
 first_same (row ∷ rows) z = if bytes_eq row.0 z then Some row.1 else first_same rows z
 
--- what the first row whose spelling begins the text says, with its length
+-- what the first row whose spelling begins the text has, with its length
 abbrev pub first_front : {X : Type 0} → List (Text × X) → Text → Option (ℕ × X)
 first_front [] z = None
 first_front (row ∷ rows) z = if begins row.0 z then Some (length row.0, row.1) else first_front rows z

@@ -1,9 +1,10 @@
 //! The piece at the front of a text.
 
 ghost use Rattle.std.specs.Prelude.{◌≡◌, ◌<◌, length, slice_index, IfOk, IfErr};
-ghost use Rattle.pyd_lex.specs.Spelling.{Extends};
-ghost use Rattle.pyd_lex.specs.Meaning.{blank};
-ghost use Rattle.pyd_lex.specs.Scan.{IsGood, IsFlawed, IfFlaw, HasClass};
+ghost use Rattle.pyd_lex.specs.Spelling.{Extends, HasClass};
+ghost use Rattle.pyd_lex.specs.Meaning.{spacing};
+ghost use Rattle.pyd_lex.specs.Front.{IsGood, IsFlawed};
+ghost use Rattle.pyd_lex.specs.Stops.{IfFlaw};
 
 use crate::TokenKind;
 use crate::fault::{Flaw, Stop};
@@ -88,14 +89,14 @@ fn word(alloc: Global, text: &[char]) -> Result<(Shape, usize), Stop>
     }
 }
 
-/// A blank, a line feed or a mark.
+/// A space, a tab, a line feed or a mark.
 fn other(c: char, text: &[char]) -> Result<(Shape, usize), Stop>
     requires first { HasClass Class.Other text.now }
     requires c { c ≡ slice_index text.now 0 }
     ensures ok { IfOk result (λ piece. IsGood text.now piece.0 piece.1) }
     ensures flaw { IfErr result (λ e. IfFlaw e (IsFlawed text.now)) }
 {
-    if let Some(shape) = blank(c) {
+    if let Some(shape) = spacing(c) {
         return Ok((shape, 1));
     }
     match front_mark(text) {
@@ -104,8 +105,8 @@ fn other(c: char, text: &[char]) -> Result<(Shape, usize), Stop>
     }
 }
 
-fn blank(c: char) -> Option<Shape>
-    ensures { result ≡ blank c }
+fn spacing(c: char) -> Option<Shape>
+    ensures { result ≡ spacing c }
 {
     match c {
         ' ' => Some(Shape::Space),

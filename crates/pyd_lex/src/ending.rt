@@ -1,9 +1,9 @@
 //! How a scan ends: with all tokens, or at the first fault.
 
-ghost use Rattle.std.specs.Prelude.{◌≡◌, ℕ, ◌++◌, [], reverse, OnOk, IfOk, IfErr, Ok};
-ghost use Rattle.pyd_lex.specs.Lines.{ahead, closing, fault_in};
-ghost use Rattle.pyd_lex.specs.Scan.{IsFlaw, Halts, bad, run, unfinished, IsStopped, StopsBy, Adds, AreAll, IsClosed, begun};
-ghost use Rattle.pyd_lex.specs.Reads.{IfFault};
+ghost use Rattle.std.specs.Prelude.{◌≡◌, OnOk, IfOk, IfErr};
+ghost use Rattle.pyd_lex.specs.Lines.{fault_in};
+ghost use Rattle.pyd_lex.specs.Machine.{unfinished};
+ghost use Rattle.pyd_lex.specs.Scanner.{IsStopped, StopsBy, Puts, AreAll, IsClosed};
 
 use crate::fault::{Flaw, LexFault, LexStop, Stop};
 use crate::mode::Mode;
@@ -28,11 +28,11 @@ impl Scanner {
         ensures { IsStopped self.old flaw place result }
     {
         match self.mode {
-            Mode::Margin(width, tab) => match self.begin(width, tab, place) {
+            Mode::Indentation { width, tab } => match self.begin(width, tab, place) {
                 Ok(()) => LexStop::Fault(fault(flaw, place.line)),
                 Err(stop) => stop,
             },
-            Mode::Inside(..) => LexStop::Fault(fault(flaw, place.line)),
+            Mode::Inside { .. } => LexStop::Fault(fault(flaw, place.line)),
         }
     }
 
@@ -48,14 +48,13 @@ impl Scanner {
 
     /// Ends a line that the text's end leaves unfinished.
     fn end_line(&mut self, end: Place) -> Result<(), LexStop>
-        ensures ok { OnOk result (Adds self.old self.new (unfinished self.old.mode end)) }
-        ensures err { IfErr result (λ stop. stop ≡ LexStop.NoMemory) }
+        ensures puts { Puts self.old self.new (unfinished self.old.mode end) result }
         ensures widths { self.new.widths.items ≡ self.old.widths.items }
     {
         match self.mode {
-            Mode::Margin(..) => Ok(()),
-            Mode::Inside(depth, loud) => {
-                self.show(loud && depth == 0, TokenKind::Newline, end, end)
+            Mode::Indentation { .. } => Ok(()),
+            Mode::Inside { depth, has_tokens } => {
+                self.push_if(has_tokens && depth == 0, empty(TokenKind::Newline, end))
             }
         }
     }

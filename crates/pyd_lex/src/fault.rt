@@ -1,6 +1,5 @@
 //! Why a source has no tokens.
 
-use pyd_value::NoMemory;
 use thiserror::Error;
 
 /// The first fault of a source. `Utf8` has the offset of the first byte that isn't part of valid
@@ -30,12 +29,6 @@ pub enum LexFault {
 pub enum LexStop {
     Fault(LexFault),
     NoMemory,
-}
-
-impl From<NoMemory> for LexStop {
-    fn from(_: NoMemory) -> Self {
-        LexStop::NoMemory
-    }
 }
 
 /// What is wrong with a piece of the text.

@@ -9,6 +9,7 @@ mod mark;
 mod mode;
 mod name;
 mod number;
+mod piece;
 mod place;
 mod run;
 mod scan;
@@ -20,10 +21,12 @@ mod widths;
 mod word;
 
 pub use fault::{LexFault, LexStop};
-pub use laws::{all_well, an_answer, first_fault, one_answer, spelled};
+pub use laws::{
+    all_good, an_answer, first_fault, lines_whole, one_answer, spelled, token_bytes, token_texts,
+};
 pub use mark::Mark;
 pub use scan::tokens;
-pub use text::text_of;
+pub use text::{name_of, text_of};
 pub use token::{Token, TokenKind};
 pub use word::Word;
 

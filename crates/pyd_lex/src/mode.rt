@@ -2,32 +2,44 @@
 
 ghost use Rattle.std.specs.Prelude.{◌≡◌, ◌+◌, ◌-◌, ◌<◌, ◌≤◌, ◌^◌};
 ghost use Rattle.pyd_lex.specs.Lines.{bracket};
-ghost use Rattle.pyd_lex.specs.Scan.{count, margin_after};
+ghost use Rattle.pyd_lex.specs.Machine.{count, indentation_after};
 
 use crate::token::Shape;
 use crate::{Mark, TokenKind};
 
-/// Where the scanner is in a line: among its leading blanks, of which it has seen `.0`, and a tab
-/// where `.1` says so; or behind them, in `.0` open brackets, where `.1` says whether the line has
-/// tokens.
+/// Where the scanner is in a logical line (Python Language Reference, section 2.1).
 #[derive(Clone, Copy, Debug, PartialEq, Eq)]
 pub enum Mode {
-    Margin(u32, bool),
-    Inside(u32, bool),
+    /// Among its leading spaces and tabs, `width` of them so far.
+    Indentation { width: u32, tab: bool },
+    /// Behind them, in `depth` open brackets. A blank line has no tokens.
+    Inside { depth: u32, has_tokens: bool },
 }
 
-/// The mode after a piece in the margin that is no token.
-pub fn margin_after(width: u32, tab: bool, shape: Shape) -> Mode
+/// The mode after a piece that is no token, where the line has none so far.
+pub fn indentation_after(width: u32, tab: bool, shape: Shape) -> Mode
     requires { width < 2 ^ 32 - 1 }
-    ensures value { result ≡ margin_after width tab shape }
+    ensures value { result ≡ indentation_after width tab shape }
     ensures within { count result ≤ width + 1 }
 {
     match shape {
-        Shape::Space => Mode::Margin(width + 1, tab),
-        Shape::Tab => Mode::Margin(width + 1, true),
-        Shape::Comment => Mode::Inside(0, false),
-        Shape::Break => Mode::Margin(0, false),
-        Shape::Token(_) => Mode::Margin(width, tab),
+        Shape::Space => Mode::Indentation {
+            width: width + 1,
+            tab,
+        },
+        Shape::Tab => Mode::Indentation {
+            width: width + 1,
+            tab: true,
+        },
+        Shape::Comment => Mode::Inside {
+            depth: 0,
+            has_tokens: false,
+        },
+        Shape::Break => Mode::Indentation {
+            width: 0,
+            tab: false,
+        },
+        Shape::Token(_) => Mode::Indentation { width, tab },
     }
 }
 

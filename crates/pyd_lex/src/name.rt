@@ -2,7 +2,7 @@
 
 ghost use Rattle.std.specs.Prelude.{◌≡◌, IfOk, IfErr, Ok, Err};
 ghost use Rattle.pyd_lex.specs.Meaning as spec;
-ghost use Rattle.pyd_lex.specs.Scan.{IfFlaw};
+ghost use Rattle.pyd_lex.specs.Stops.{IfFlaw};
 ghost use Rattle.pyd_lex.specs.Words.{keyword};
 
 use crate::TokenKind;

@@ -19,7 +19,7 @@ pub fn number(text: &[char]) -> Result<TokenKind, Flaw>
         return Err(Flaw::BadNumber);
     }
     let amount = amount(base, digits);
-    if is_led(base, text, amount) {
+    if has_leading_zero(base, text, amount) {
         return Err(Flaw::BadNumber);
     }
     sized(amount)
@@ -29,12 +29,12 @@ fn is_digits(base: u32, digits: &[char]) -> bool
     requires { (2 ≤ base) × (base ≤ 16) }
     ensures { result ≡ spec.is_digits base digits.now }
 {
-    !digits.is_empty() && is_spread(base, digits)
+    !digits.is_empty() && has_single_underscores(base, digits)
 }
 
 /// Whether it is a decimal that begins with a zero and isn't zeros only.
-fn is_led(base: u32, text: &[char], amount: Option<u128>) -> bool
-    ensures { result ≡ spec.is_led base text.now amount }
+fn has_leading_zero(base: u32, text: &[char], amount: Option<u128>) -> bool
+    ensures { result ≡ spec.has_leading_zero base text.now amount }
 {
     base == 10 && begins(b"0", text) && !is_zero(amount)
 }
@@ -99,9 +99,9 @@ fn digits(base: u32, text: &[char]) -> &[char]
 }
 
 /// Whether each digit stands alone or after one underscore.
-fn is_spread(base: u32, mut text: &[char]) -> bool
+fn has_single_underscores(base: u32, mut text: &[char]) -> bool
     requires { (2 ≤ base) × (base ≤ 16) }
-    ensures { result ≡ spec.is_spread base text.entry.now }
+    ensures { result ≡ spec.has_single_underscores base text.entry.now }
 {
     while let [c, rest @ ..] = text {
         if *c != '_' {

@@ -2,11 +2,13 @@
 
 ghost use Rattle.std.specs.Prelude.{◌≡◌, ◌+◌, ◌-◌, ◌<◌, ◌≤◌, ◌^◌, length, IfOk, IfErr, Ok, Err};
 ghost use Rattle.pyd_lex.specs.Lines.{size};
-ghost use Rattle.pyd_lex.specs.Reads.{Reads, Says, TextSays, IfFault, is_marked};
+ghost use Rattle.pyd_lex.specs.Reads.{Reads, CutReads, TextReads, has_bom};
+ghost use Rattle.pyd_lex.specs.Stops.{IfFault};
 
 use crate::Token;
 use crate::cut::front;
 use crate::fault::{LexFault, LexStop};
+use crate::piece::Piece;
 use crate::place::Place;
 use crate::scanner::Scanner;
 use crate::text::characters;
@@ -16,25 +18,25 @@ use std::alloc::Global;
 pub fn tokens(alloc: Global, bytes: &[u8]) -> Result<Vec<Token>, LexStop>
     requires { length bytes.now < 2 ^ 32 - 1 }
     ensures ok { IfOk result (λ tokens. Reads bytes.now (Ok tokens.items)) }
-    ensures fault { IfErr result (λ stop. IfFault stop (λ fault. Reads bytes.now (Err fault))) }
+    ensures fault { IfErr result (λ stop. IfFault stop (λ f. Reads bytes.now (Err f))) }
 {
     let text = match str::from_utf8(bytes) {
         Ok(text) => text,
         Err(error) => return Err(LexStop::Fault(LexFault::Utf8(error.valid_up_to() as u32))),
     };
     match characters(alloc, text) {
-        Ok(text) => marked(alloc, text.as_slice()),
+        Ok(text) => after_bom(alloc, text.as_slice()),
         Err(_) => Err(LexStop::NoMemory),
     }
 }
 
 /// The tokens of a text that may begin with a byte order mark.
-fn marked(alloc: Global, text: &[char]) -> Result<Vec<Token>, LexStop>
+fn after_bom(alloc: Global, text: &[char]) -> Result<Vec<Token>, LexStop>
     requires { size text.now < 2 ^ 32 - 1 }
-    ensures ok { IfOk result (λ tokens. TextSays text.now (Ok tokens.items)) }
-    ensures fault { IfErr result (λ stop. IfFault stop (λ fault. TextSays text.now (Err fault))) }
+    ensures ok { IfOk result (λ tokens. TextReads text.now (Ok tokens.items)) }
+    ensures fault { IfErr result (λ stop. IfFault stop (λ f. TextReads text.now (Err f))) }
 {
-    if is_marked(text) {
+    if has_bom(text) {
         let (_, rest) = text.split_at(1);
         return scanned(alloc, Place { at: 3, line: 1 }, rest);
     }
@@ -42,8 +44,8 @@ fn marked(alloc: Global, text: &[char]) -> Result<Vec<Token>, LexStop>
 }
 
 /// Whether a byte order mark is at the front.
-fn is_marked(text: &[char]) -> bool
-    ensures { result ≡ is_marked text.now }
+fn has_bom(text: &[char]) -> bool
+    ensures { result ≡ has_bom text.now }
 {
     match text {
         [c, ..] => *c == '\u{feff}',
@@ -55,8 +57,8 @@ fn is_marked(text: &[char]) -> bool
 fn scanned(alloc: Global, start: Place, text: &[char]) -> Result<Vec<Token>, LexStop>
     requires at { start.at + size text.now < 2 ^ 32 - 1 }
     requires line { start.line ≤ start.at + 1 }
-    ensures ok { IfOk result (λ tokens. Says start text.now (Ok tokens.items)) }
-    ensures fault { IfErr result (λ stop. IfFault stop (λ fault. Says start text.now (Err fault))) }
+    ensures ok { IfOk result (λ tokens. CutReads start text.now (Ok tokens.items)) }
+    ensures fault { IfErr result (λ stop. IfFault stop (λ f. CutReads start text.now (Err f))) }
 {
     let mut scanner = Scanner::new(alloc);
     let mut place = start;
@@ -66,9 +68,15 @@ fn scanned(alloc: Global, start: Place, text: &[char]) -> Result<Vec<Token>, Lex
             Ok(piece) => piece,
             Err(stop) => return Err(scanner.stopped(stop, place)),
         };
-        let (piece, more) = rest.split_at(len);
-        let next = place.after(piece);
-        match scanner.step(shape, place, next) {
+        let (spelling, more) = rest.split_at(len);
+        let next = place.after(spelling);
+        let piece = Piece {
+            shape,
+            from: place.at,
+            to: next.at,
+            line: place.line,
+        };
+        match scanner.step(piece) {
             Ok(()) => {}
             Err(stop) => return Err(stop),
         }

@@ -1,13 +1,13 @@
 //! The scanner: what a piece of the text does to the tokens so far.
 
-ghost use Rattle.std.specs.Prelude.{◌≡◌, ◌<◌, ◌≤◌, ◌∷◌, [], ◌++◌, reverse, false, OnOk, IfErr};
-ghost use Rattle.pyd_lex.specs.Lines.{shown};
-ghost use Rattle.pyd_lex.specs.Scan.{Takes, Halts, good, count, Took, Halted, Adds, begun, spelled, token_between};
-ghost use Rattle.pyd_lex.specs.Reads.{IfFault};
+ghost use Rattle.std.specs.Prelude.{◌≡◌, ◌<◌, ◌≤◌, ◌∷◌, [], false};
+ghost use Rattle.pyd_lex.specs.Lines.{token_if};
+ghost use Rattle.pyd_lex.specs.Machine.{count};
+ghost use Rattle.pyd_lex.specs.Scanner.{IsStep, IsTokenStep, Puts, as_piece};
 
 use crate::fault::LexStop;
-use crate::mode::{Mode, bracketed, margin_after};
-use crate::place::Place;
+use crate::mode::{Mode, bracketed, indentation_after};
+use crate::piece::Piece;
 use crate::token::Shape;
 use crate::{Token, TokenKind};
 use std::alloc::Global;
@@ -24,60 +24,40 @@ impl Scanner {
     pub fn new(alloc: Global) -> Scanner
         ensures tokens { result.tokens.items ≡ [] }
         ensures widths { result.widths.items ≡ [] }
-        ensures mode { result.mode ≡ Mode.Margin 0 false }
+        ensures mode { result.mode ≡ Mode.Indentation 0 false }
     {
         Scanner {
             tokens: Vec::new(alloc),
             widths: Vec::new(alloc),
-            mode: Mode::Margin(0, false),
+            mode: Mode::Indentation {
+                width: 0,
+                tab: false,
+            },
         }
     }
 
-    pub fn push(&mut self, token: Token) -> Result<(), LexStop>
-        ensures ok { OnOk result (Adds self.old self.new (token ∷ [])) }
-        ensures err { IfErr result (λ stop. stop ≡ LexStop.NoMemory) }
-        ensures widths { self.new.widths.items ≡ self.old.widths.items }
-        ensures mode { self.new.mode ≡ self.old.mode }
-    {
-        match self.tokens.push(token) {
-            Ok(()) => Ok(()),
-            Err(_) => Err(LexStop::NoMemory),
-        }
-    }
-
-    /// Takes a good piece from `place` to `next`.
-    pub fn step(&mut self, shape: Shape, place: Place, next: Place) -> Result<(), LexStop>
-        requires room { place.at < next.at }
-        requires within { count self.old.mode ≤ place.at }
-        ensures ok { OnOk result (Took self.old.mode self.old self.new (good shape place next)) }
-        ensures fault { IfErr result (Halted self.old.mode self.old (good shape place next)) }
-        ensures within { OnOk result (count self.new.mode ≤ next.at) }
+    /// Takes a piece.
+    pub fn step(&mut self, piece: Piece) -> Result<(), LexStop>
+        requires room { piece.from < piece.to }
+        requires within { count self.old.mode ≤ piece.from }
+        ensures { IsStep self.old.mode self.old self.new (as_piece piece) result }
     {
         match self.mode {
-            Mode::Margin(width, tab) => self.in_margin(width, tab, shape, place, next),
-            Mode::Inside(depth, loud) => self.inside(depth, loud, shape, place, next),
+            Mode::Indentation { width, tab } => self.in_indentation(width, tab, piece),
+            Mode::Inside { depth, has_tokens } => self.inside(depth, has_tokens, piece),
         }
     }
 
-    fn in_margin(
-        &mut self,
-        width: u32,
-        tab: bool,
-        shape: Shape,
-        place: Place,
-        next: Place,
-    ) -> Result<(), LexStop>
-        requires mode { self.old.mode ≡ Mode.Margin width tab }
-        requires room { place.at < next.at }
-        requires within { width ≤ place.at }
-        ensures ok { OnOk result (Took (Mode.Margin width tab) self.old self.new (good shape place next)) }
-        ensures fault { IfErr result (Halted (Mode.Margin width tab) self.old (good shape place next)) }
-        ensures within { OnOk result (count self.new.mode ≤ next.at) }
+    fn in_indentation(&mut self, width: u32, tab: bool, piece: Piece) -> Result<(), LexStop>
+        requires mode { self.old.mode ≡ Mode.Indentation width tab }
+        requires room { piece.from < piece.to }
+        requires within { width ≤ piece.from }
+        ensures { IsStep (Mode.Indentation width tab) self.old self.new (as_piece piece) result }
     {
-        if let Shape::Token(kind) = shape {
-            return self.first_token(width, tab, kind, place, next);
+        if let Shape::Token(kind) = piece.shape {
+            return self.first_token(width, tab, kind, piece);
         }
-        self.mode = margin_after(width, tab, shape);
+        self.mode = indentation_after(width, tab, piece.shape);
         Ok(())
     }
 
@@ -86,41 +66,31 @@ impl Scanner {
         width: u32,
         tab: bool,
         kind: TokenKind,
-        place: Place,
-        next: Place,
+        piece: Piece,
     ) -> Result<(), LexStop>
-        requires room { place.at < next.at }
-        ensures ok { OnOk result (Took (Mode.Margin width tab) self.old self.new (spelled kind place next)) }
-        ensures fault { IfErr result (Halted (Mode.Margin width tab) self.old (spelled kind place next)) }
-        ensures within { OnOk result (count self.new.mode ≤ next.at) }
+        requires room { piece.from < piece.to }
+        ensures { IsTokenStep (Mode.Indentation width tab) self.old self.new kind piece result }
     {
-        match self.begin(width, tab, place) {
+        match self.begin(width, tab, piece.place()) {
             Ok(()) => {}
             Err(stop) => return Err(stop),
         }
-        self.show(true, kind, place, next)?;
-        self.mode = Mode::Inside(bracketed(0, kind), true);
-        Ok(())
+        self.mode = Mode::Inside {
+            depth: bracketed(0, kind),
+            has_tokens: true,
+        };
+        self.push(piece.token(kind))
     }
 
-    fn inside(
-        &mut self,
-        depth: u32,
-        loud: bool,
-        shape: Shape,
-        place: Place,
-        next: Place,
-    ) -> Result<(), LexStop>
-        requires mode { self.old.mode ≡ Mode.Inside depth loud }
-        requires room { place.at < next.at }
-        requires within { depth ≤ place.at }
-        ensures ok { OnOk result (Took (Mode.Inside depth loud) self.old self.new (good shape place next)) }
-        ensures fault { IfErr result (Halted (Mode.Inside depth loud) self.old (good shape place next)) }
-        ensures within { OnOk result (count self.new.mode ≤ next.at) }
+    fn inside(&mut self, depth: u32, has_tokens: bool, piece: Piece) -> Result<(), LexStop>
+        requires mode { self.old.mode ≡ Mode.Inside depth has_tokens }
+        requires room { piece.from < piece.to }
+        requires within { depth ≤ piece.from }
+        ensures { IsStep (Mode.Inside depth has_tokens) self.old self.new (as_piece piece) result }
     {
-        match shape {
-            Shape::Token(kind) => self.inner_token(depth, loud, kind, place, next),
-            Shape::Break => self.line_break(depth, loud, place, next),
+        match piece.shape {
+            Shape::Token(kind) => self.inner_token(depth, has_tokens, kind, piece),
+            Shape::Break => self.line_break(depth, has_tokens, piece),
             _ => Ok(()),
         }
     }
@@ -128,65 +98,56 @@ impl Scanner {
     fn inner_token(
         &mut self,
         depth: u32,
-        loud: bool,
+        has_tokens: bool,
         kind: TokenKind,
-        place: Place,
-        next: Place,
+        piece: Piece,
     ) -> Result<(), LexStop>
-        requires room { place.at < next.at }
-        requires within { depth ≤ place.at }
-        ensures ok { OnOk result (Took (Mode.Inside depth loud) self.old self.new (spelled kind place next)) }
-        ensures err { IfErr result (λ stop. stop ≡ LexStop.NoMemory) }
-        ensures within { OnOk result (count self.new.mode ≤ next.at) }
+        requires room { piece.from < piece.to }
+        requires within { depth ≤ piece.from }
+        ensures { IsTokenStep (Mode.Inside depth has_tokens) self.old self.new kind piece result }
     {
-        self.show(loud, kind, place, next)?;
-        self.mode = Mode::Inside(bracketed(depth, kind), loud);
-        Ok(())
+        self.mode = Mode::Inside {
+            depth: bracketed(depth, kind),
+            has_tokens,
+        };
+        self.push_if(has_tokens, piece.token(kind))
     }
 
-    fn line_break(
-        &mut self,
-        depth: u32,
-        loud: bool,
-        place: Place,
-        next: Place,
-    ) -> Result<(), LexStop>
-        requires mode { self.old.mode ≡ Mode.Inside depth loud }
-        requires room { place.at < next.at }
-        requires within { depth ≤ place.at }
-        ensures ok { OnOk result (Took (Mode.Inside depth loud) self.old self.new (good Shape.Break place next)) }
-        ensures err { IfErr result (λ stop. stop ≡ LexStop.NoMemory) }
-        ensures within { OnOk result (count self.new.mode ≤ next.at) }
+    fn line_break(&mut self, depth: u32, has_tokens: bool, piece: Piece) -> Result<(), LexStop>
+        requires mode { self.old.mode ≡ Mode.Inside depth has_tokens }
+        requires shape { piece.shape ≡ Shape.Break }
+        requires room { piece.from < piece.to }
+        requires within { depth ≤ piece.from }
+        ensures { IsStep (Mode.Inside depth has_tokens) self.old self.new (as_piece piece) result }
     {
         if depth != 0 {
             return Ok(());
         }
-        self.show(loud, TokenKind::Newline, place, next)?;
-        self.mode = Mode::Margin(0, false);
-        Ok(())
+        self.mode = Mode::Indentation {
+            width: 0,
+            tab: false,
+        };
+        self.push_if(has_tokens, piece.token(TokenKind::Newline))
     }
 
-    /// Puts a token where the line has tokens.
-    pub fn show(
-        &mut self,
-        loud: bool,
-        kind: TokenKind,
-        place: Place,
-        next: Place,
-    ) -> Result<(), LexStop>
-        ensures ok { OnOk result (Adds self.old self.new (shown loud (token_between kind place next))) }
-        ensures err { IfErr result (λ stop. stop ≡ LexStop.NoMemory) }
+    pub fn push(&mut self, token: Token) -> Result<(), LexStop>
+        ensures puts { Puts self.old self.new (token ∷ []) result }
         ensures widths { self.new.widths.items ≡ self.old.widths.items }
-        ensures mode { self.new.mode ≡ self.old.mode }
     {
-        if !loud {
+        match self.tokens.push(token) {
+            Ok(()) => Ok(()),
+            Err(_) => Err(LexStop::NoMemory),
+        }
+    }
+
+    /// Puts a token of a line that has tokens.
+    pub fn push_if(&mut self, has_tokens: bool, token: Token) -> Result<(), LexStop>
+        ensures puts { Puts self.old self.new (token_if has_tokens token) result }
+        ensures widths { self.new.widths.items ≡ self.old.widths.items }
+    {
+        if !has_tokens {
             return Ok(());
         }
-        self.push(Token {
-            kind,
-            from: place.at,
-            to: next.at,
-            line: place.line,
-        })
+        self.push(token)
     }
 }

@@ -3,7 +3,7 @@
 ghost use Rattle.std.specs.Prelude.{◌≡◌, ℕ, ◌<◌, IfOk, IfErr, None, Some, take, length};
 ghost use Rattle.pyd_lex.specs.Words.{begins};
 ghost use Rattle.pyd_lex.specs.Strings as spec;
-ghost use Rattle.pyd_lex.specs.Ends.{Ends, IsBroken, Steps, spelling, IsString, IsFlawedString};
+ghost use Rattle.pyd_lex.specs.Quoted.{Ends, IsBroken, Steps, spelling, IsString, IsFlawedString};
 
 use crate::fault::Flaw;
 

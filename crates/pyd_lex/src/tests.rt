@@ -1,5 +1,6 @@
 //! Tokens and texts compared with CPython's, and the sources that have none.
 
+mod caller;
 mod refused;
 mod rows;
 
@@ -8,7 +9,7 @@ use std::alloc::{AllocError, Global};
 use std::test::Fail;
 
 // The tokens as words, each with its bytes and its line, or why there are none.
-fn shown(alloc: Global, source: &[u8]) -> Result<String, AllocError> {
+fn listed(alloc: Global, source: &[u8]) -> Result<String, AllocError> {
     if source.len() >= 1000 {
         return String::from_str(alloc, "long");
     }
@@ -59,7 +60,7 @@ fn texts(alloc: Global, source: &[u8]) -> Result<String, AllocError> {
 fn tokens_are_those_of_cpython(rt: HostRuntime) -> Result<(), Fail> {
     for (source, want) in &rows::TOKENS {
         assert_eq!(rt;
-            shown(rt.alloc(), source.as_bytes())?.as_str(),
+            listed(rt.alloc(), source.as_bytes())?.as_str(),
             *want,
             "at {source:?}"
         );
@@ -81,9 +82,9 @@ fn texts_are_those_of_cpython(rt: HostRuntime) -> Result<(), Fail> {
 
 #[test]
 fn lines_and_strings_are_read(rt: HostRuntime) -> Result<(), Fail> {
-    for (source, want) in refused::SHOWN.iter().chain(&refused::LINES) {
+    for (source, want) in refused::LISTED.iter().chain(&refused::LINES) {
         assert_eq!(rt;
-            shown(rt.alloc(), source.as_bytes())?.as_str(),
+            listed(rt.alloc(), source.as_bytes())?.as_str(),
             *want,
             "at {source:?}"
         );
@@ -95,7 +96,7 @@ fn lines_and_strings_are_read(rt: HostRuntime) -> Result<(), Fail> {
 fn faults_have_their_line(rt: HostRuntime) -> Result<(), Fail> {
     for (source, want) in refused::CHARS.iter().chain(&refused::NUMBERS) {
         assert_eq!(rt;
-            shown(rt.alloc(), source.as_bytes())?.as_str(),
+            listed(rt.alloc(), source.as_bytes())?.as_str(),
             *want,
             "at {source:?}"
         );
@@ -107,10 +108,26 @@ fn faults_have_their_line(rt: HostRuntime) -> Result<(), Fail> {
 fn bytes_outside_utf8_come_first(rt: HostRuntime) -> Result<(), Fail> {
     for (source, want) in &refused::BYTES {
         assert_eq!(rt;
-            shown(rt.alloc(), *source)?.as_str(),
+            listed(rt.alloc(), *source)?.as_str(),
             *want,
             "at {source:?}"
         );
     }
+    Ok(())
+}
+
+#[test]
+fn a_caller_reads_names(rt: HostRuntime) -> Result<(), Fail> {
+    let source = "if \u{f1} == x\u{30c}: 'x'".as_bytes();
+    let mut out = String::new(rt.alloc());
+    if let Ok(all) = tokens(rt.alloc(), source) {
+        for at in 0..all.len() {
+            if let Some(name) = caller::name_at(source, all.as_slice(), at) {
+                out.push_str(name)?;
+                out.push(' ')?;
+            }
+        }
+    }
+    assert_eq!(rt; out.as_str(), "\u{f1} x\u{30c} ");
     Ok(())
 }

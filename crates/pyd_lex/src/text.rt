@@ -1,13 +1,15 @@
 //! The text of a string token.
 
-ghost use Rattle.std.specs.Prelude.{◌≡◌, IfOk, IfSome, IfNone, ◌≤◌, length, encode_utf8_all, string_bytes};
+ghost use Rattle.std.specs.Prelude.{◌≡◌, IfOk, IfSome, IfNone, ◌≤◌, length, string_bytes};
 ghost use Rattle.std.specs.Str.{chars};
 ghost use Rattle.pyd_lex.specs.Strings as spec;
-ghost use Rattle.pyd_lex.specs.Ends.{spelling};
-ghost use Rattle.pyd_lex.specs.Texts.{IsTextOf, spelling_of};
+ghost use Rattle.pyd_lex.specs.Quoted as quoted;
+ghost use Rattle.pyd_lex.specs.Quoted.{spelling};
+ghost use Rattle.pyd_lex.specs.Texts.{IsTextOf, spelling_of, utf8};
+ghost use Rattle.pyd_lex.specs.TokenBytes.{IsName, IsSpelled};
 
-use crate::Token;
 use crate::string::{Part, Quotes, escape, opening};
+use crate::{Token, TokenKind};
 use pyd_value::NoMemory;
 use std::alloc::{AllocError, Global};
 
@@ -21,6 +23,19 @@ pub fn text_of(alloc: Global, bytes: &[u8], token: &Token) -> Result<String, NoM
             value(alloc, text.as_slice())
         }
         Err(_) => Ok(String::new(alloc)),
+    }
+}
+
+/// The name that a name token of these bytes is. Takes no memory.
+pub fn name_of<'a>(bytes: &'a [u8], token: &Token) -> &'a str
+    requires kind { token.now.kind ≡ TokenKind.Name }
+    requires spelled { IsSpelled bytes.now token.now }
+    ensures bytes { result.now ≡ spelling_of bytes.entry.now token.now.from token.now.to }
+    ensures name { IsName (chars result.now) }
+{
+    match str::from_utf8(bytes_of(bytes, token)) {
+        Ok(name) => name,
+        Err(_) => "",
     }
 }
 
@@ -42,7 +57,7 @@ fn bytes_of<'a>(bytes: &'a [u8], token: &Token) -> &'a [u8]
 
 /// The value of a string that is spelled so.
 fn value(alloc: Global, text: &[char]) -> Result<String, NoMemory>
-    ensures { IfOk result (λ s. string_bytes s ≡ encode_utf8_all (spec.string_value text.now)) }
+    ensures { IfOk result (λ s. string_bytes s ≡ utf8 (spec.string_value text.now)) }
 {
     if text.is_empty() {
         return Ok(String::new(alloc));
@@ -55,7 +70,7 @@ fn value(alloc: Global, text: &[char]) -> Result<String, NoMemory>
 
 /// The value of a string from after its opening quotes on.
 fn written(alloc: Global, quotes: Quotes, text: &[char]) -> Result<String, NoMemory>
-    ensures { IfOk result (λ s. string_bytes s ≡ encode_utf8_all (spec.value (spelling quotes) text.now)) }
+    ensures { IfOk result (λ s. string_bytes s ≡ utf8 (spec.value (spelling quotes) text.now)) }
 {
     let mut out = String::new(alloc);
     let mut rest = text;
@@ -69,7 +84,7 @@ fn written(alloc: Global, quotes: Quotes, text: &[char]) -> Result<String, NoMem
 
 /// The first character of the value of what is left, and the length of its spelling.
 fn first(quotes: Quotes, text: &[char]) -> Option<(char, usize)>
-    ensures { result ≡ spec.first (spelling quotes) text.now }
+    ensures { result ≡ quoted.first (spelling quotes) text.now }
 {
     match quotes.part(text) {
         Part::Plain => plain(text),
@@ -79,7 +94,7 @@ fn first(quotes: Quotes, text: &[char]) -> Option<(char, usize)>
 }
 
 fn plain(text: &[char]) -> Option<(char, usize)>
-    ensures { result ≡ spec.plain text.now }
+    ensures { result ≡ quoted.plain text.now }
 {
     match text {
         ['\r', '\n', ..] => Some(('\n', 2)),
@@ -90,7 +105,7 @@ fn plain(text: &[char]) -> Option<(char, usize)>
 }
 
 fn escaped(text: &[char]) -> Option<(char, usize)>
-    ensures { result ≡ spec.escaped text.now }
+    ensures { result ≡ quoted.escaped text.now }
 {
     match text {
         [_, d, ..] => match escape(*d) {

@@ -1,9 +1,9 @@
 //! The widths of the lines that are begun.
 
-ghost use Rattle.std.specs.Prelude.{◌≡◌, ◌<◌, ◌∷◌, [], ◌++◌, reverse, length, OnOk, IfErr};
+ghost use Rattle.std.specs.Prelude.{◌≡◌, ◌<◌, ◌∷◌, [], ◌++◌, length, OnOk};
 ghost use Rattle.pyd_lex.specs.Lines.{empty_at, lowered, top};
-ghost use Rattle.pyd_lex.specs.Scan.{Begins, Refuses, started, HasBegun, IsRefused, Adds, begun};
-ghost use Rattle.pyd_lex.specs.Reads.{IfFault};
+ghost use Rattle.pyd_lex.specs.Machine.{started};
+ghost use Rattle.pyd_lex.specs.Scanner.{IsBegun, Puts, begun};
 
 use crate::fault::{LexFault, LexStop};
 use crate::place::Place;
@@ -13,16 +13,13 @@ use crate::{Token, TokenKind};
 impl Scanner {
     /// Begins a line whose first token is here.
     pub fn begin(&mut self, width: u32, tab: bool, place: Place) -> Result<(), LexStop>
-        ensures ok { OnOk result (HasBegun self.old (started tab width place (begun self.old)) self.new) }
-        ensures fault { IfErr result (IsRefused (started tab width place (begun self.old))) }
-        ensures mode { self.new.mode ≡ self.old.mode }
+        ensures { IsBegun (started tab width place (begun self.old)) self.old self.new result }
     {
         if tab {
             return Err(LexStop::Fault(LexFault::Tab(place.line)));
         }
         if self.top() < width {
-            self.indent(width, place)?;
-            return Ok(());
+            return self.indent(width, place);
         }
         self.lower(width, place)
     }
@@ -36,10 +33,8 @@ impl Scanner {
     }
 
     fn indent(&mut self, width: u32, place: Place) -> Result<(), LexStop>
-        ensures ok { OnOk result (Adds self.old self.new (empty_at TokenKind.Indent place ∷ [])) }
+        ensures puts { Puts self.old self.new (empty_at TokenKind.Indent place ∷ []) result }
         ensures widths { OnOk result (self.new.widths.items ≡ self.old.widths.items ++ width ∷ []) }
-        ensures err { IfErr result (λ stop. stop ≡ LexStop.NoMemory) }
-        ensures mode { self.new.mode ≡ self.old.mode }
     {
         if self.widths.push(width).is_err() {
             return Err(LexStop::NoMemory);
@@ -50,10 +45,8 @@ impl Scanner {
     /// Closes the innermost line that is begun.
     pub fn dedent(&mut self, place: Place) -> Result<(), LexStop>
         requires { 0 < length self.old.widths.items }
-        ensures ok { OnOk result (Adds self.old self.new (empty_at TokenKind.Dedent place ∷ [])) }
+        ensures puts { Puts self.old self.new (empty_at TokenKind.Dedent place ∷ []) result }
         ensures widths { OnOk result (begun self.old ≡ top (begun self.old) ∷ begun self.new) }
-        ensures err { IfErr result (λ stop. stop ≡ LexStop.NoMemory) }
-        ensures mode { self.new.mode ≡ self.old.mode }
         ensures less { length self.new.widths.items < length self.old.widths.items }
     {
         self.widths.pop();
@@ -62,12 +55,13 @@ impl Scanner {
 
     /// Closes the lines that are wider than this.
     fn lower(&mut self, width: u32, place: Place) -> Result<(), LexStop>
-        ensures ok { OnOk result (HasBegun self.old (lowered width place (begun self.old)) self.new) }
-        ensures fault { IfErr result (IsRefused (lowered width place (begun self.old))) }
-        ensures mode { self.new.mode ≡ self.old.mode }
+        ensures { IsBegun (lowered width place (begun self.old)) self.old self.new result }
     {
         while width < self.top() {
-            self.dedent(place)?;
+            match self.dedent(place) {
+                Ok(()) => {}
+                Err(stop) => return Err(stop),
+            }
         }
         if width == self.top() {
             return Ok(());

@@ -1,6 +1,6 @@
 //! Sources that CPython's tokenize reads otherwise or not at all, with their tokens or their fault.
 
-pub(crate) const SHOWN: [(&str, &str); 20] = [
+pub(crate) const LISTED: [(&str, &str); 24] = [
     (
         "x\ry\r\nz",
         "Name@0-1:1 Newline@1-2:1 Name@2-3:2 Newline@3-5:2 Name@5-6:3 Newline@6-6:3 End@6-6:3",
@@ -27,6 +27,16 @@ pub(crate) const SHOWN: [(&str, &str); 20] = [
         "0x7fffffffffffffffffffffffffffffff",
         "Int(170141183460469231731687303715884105727)@0-34:1 Newline@34-34:1 End@34-34:1",
     ),
+    (
+        "0o1777777777777777777777777777777777777777777",
+        "Int(170141183460469231731687303715884105727)@0-45:1 Newline@45-45:1 End@45-45:1",
+    ),
+    ("x\u{30c}", "Name@0-3:1 Newline@3-3:1 End@3-3:1"),
+    ("\u{feff}\u{feff}", "BadChar(1)"),
+    (
+        "])",
+        "Mark(RightBracket)@0-1:1 Mark(RightParen)@1-2:1 Newline@2-2:1 End@2-2:1",
+    ),
     ("00_0", "Int(0)@0-4:1 Newline@4-4:1 End@4-4:1"),
     ("''''", "BadString(1)"),
     ("'''x'", "BadString(1)"),
@@ -38,7 +48,7 @@ pub(crate) const SHOWN: [(&str, &str); 20] = [
     ("'\\", "BadString(1)"),
 ];
 
-pub(crate) const CHARS: [(&str, &str); 22] = [
+pub(crate) const CHARS: [(&str, &str); 21] = [
     ("a\n?\n", "BadChar(2)"),
     ("a \\\n", "BadChar(1)"),
     ("a!b", "BadChar(1)"),
@@ -48,7 +58,6 @@ pub(crate) const CHARS: [(&str, &str); 22] = [
     ("{", "BadChar(1)"),
     ("a;b", "BadChar(1)"),
     ("x\u{c}", "BadChar(1)"),
-    ("\u{feff}\u{feff}", "BadChar(1)"),
     ("\0", "BadChar(1)"),
     ("\n# a\0b", "BadChar(2)"),
     ("\t# \0", "BadChar(1)"),
@@ -63,7 +72,7 @@ pub(crate) const CHARS: [(&str, &str); 22] = [
     ("x\n\u{aa}", "BadName(2)"),
 ];
 
-pub(crate) const NUMBERS: [(&str, &str); 17] = [
+pub(crate) const NUMBERS: [(&str, &str); 19] = [
     ("01", "BadNumber(1)"),
     ("0_1", "BadNumber(1)"),
     ("1__0", "BadNumber(1)"),
@@ -80,6 +89,14 @@ pub(crate) const NUMBERS: [(&str, &str); 17] = [
     ("x\n01\n?", "BadNumber(2)"),
     ("170141183460469231731687303715884105728", "WideNumber(1)"),
     ("0x80000000000000000000000000000000", "WideNumber(1)"),
+    (
+        "0o2000000000000000000000000000000000000000000",
+        "WideNumber(1)",
+    ),
+    (
+        "0b10000000000000000000000000000000000000000000000000000000000000000000000000000000000000000000000000000000000000000000000000000000",
+        "WideNumber(1)",
+    ),
     (
         "0999999999999999999999999999999999999999999",
         "BadNumber(1)",

@@ -1,4 +1,4 @@
-use Rattle.pyd_lex.specs.Scan.{IsFlawed}
+use Rattle.pyd_lex.specs.Front.{IsFlawed}
 use Rattle.pyd_lex.proofs.Pieces.{good_name, flawed_name, map_flaw}
 use Rattle.pyd_lex.proofs.cut.word.Goals as goal
 

@@ -1,5 +1,5 @@
-use Rattle.pyd_lex.proofs.First.{first_fault}
+use Rattle.pyd_lex.proofs.Faults.{first_fault_law}
 use Rattle.pyd_lex.proofs.laws.first_fault.Goals as goal
 
 pub returns : goal.returns
-returns c = first_fault
+returns c = first_fault_law

@@ -8,10 +8,10 @@ pub returns-then-not-is_digits : goal.returns-then-not-is_digits
 returns-then-not-is_digits c =
     sym (not_number c.args.text.now c.digits-digits.result.now c.radix-base.result c.radix-base.ensures.value c.digits-digits.ensures (sym c.is_digits.ensures ∙ search c.if-not-is_digits.true))
 
-pub returns-then-is_led : goal.returns-then-is_led
-returns-then-is_led c =
-    sym (a_number c.args.text.now c.digits-digits.result.now c.radix-base.result c.amount-amount.result c.radix-base.ensures.value c.digits-digits.ensures (sym c.is_digits.ensures ∙ search c.if-not-is_digits.false) c.amount-amount.ensures ∙ ap (λ t. if t then Err BadNumber else sized c.amount-amount.result) (is_so c.is_led.result true c.is_led.ensures (search c.if-is_led.true)))
+pub returns-then-has_leading_zero : goal.returns-then-has_leading_zero
+returns-then-has_leading_zero c =
+    sym (a_number c.args.text.now c.digits-digits.result.now c.radix-base.result c.amount-amount.result c.radix-base.ensures.value c.digits-digits.ensures (sym c.is_digits.ensures ∙ search c.if-not-is_digits.false) c.amount-amount.ensures ∙ ap (λ t. if t then Err BadNumber else sized c.amount-amount.result) (is_so c.has_leading_zero.result true c.has_leading_zero.ensures (search c.if-has_leading_zero.true)))
 
 pub returns : goal.returns
 returns c =
-    c.sized.ensures ∙ sym (a_number c.args.text.now c.digits-digits.result.now c.radix-base.result c.amount-amount.result c.radix-base.ensures.value c.digits-digits.ensures (sym c.is_digits.ensures ∙ search c.if-not-is_digits.false) c.amount-amount.ensures ∙ ap (λ t. if t then Err BadNumber else sized c.amount-amount.result) (is_so c.is_led.result false c.is_led.ensures (search c.if-is_led.false)))
+    c.sized.ensures ∙ sym (a_number c.args.text.now c.digits-digits.result.now c.radix-base.result c.amount-amount.result c.radix-base.ensures.value c.digits-digits.ensures (sym c.is_digits.ensures ∙ search c.if-not-is_digits.false) c.amount-amount.ensures ∙ ap (λ t. if t then Err BadNumber else sized c.amount-amount.result) (is_so c.has_leading_zero.result false c.has_leading_zero.ensures (search c.if-has_leading_zero.false)))

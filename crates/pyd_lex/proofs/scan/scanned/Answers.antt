@@ -1,7 +1,7 @@
 use Rattle.std.proofs.Common.{◌∙◌, ap, reverse, refl, arith, Err}
 use Rattle.pyd_lex.specs.Lines.{after, size}
-use Rattle.pyd_lex.specs.Scan.{count}
-use Rattle.pyd_lex.proofs.Steps.{says_new, says_more, says_stop, says_halt, map_fault, size_split, length_size, ends_length}
+use Rattle.pyd_lex.specs.Machine.{count}
+use Rattle.pyd_lex.proofs.Steps.{reads_new, reads_more, reads_stop, reads_halt, map_fault, size_split, length_size, ends_length}
 use Rattle.pyd_lex.proofs.scan.scanned.Goals as goal
 
 pub loop-rest-init : goal.loop-rest-init
@@ -9,13 +9,13 @@ loop-rest-init c = record {
   at = refl;
   line = c.requires.line;
   within = let m = ap count c.new-scanner.ensures.mode in omega arith;
-  says = says_new c.args.start c.args.text.now c.new-scanner.result.tokens.items c.new-scanner.result.mode c.new-scanner.result.widths.items c.new-scanner.ensures.tokens c.new-scanner.ensures.mode c.new-scanner.ensures.widths;
+  reads = reads_new c.args.start c.args.text.now c.new-scanner.result.tokens.items c.new-scanner.result.mode c.new-scanner.result.widths.items c.new-scanner.ensures.tokens c.new-scanner.ensures.mode c.new-scanner.ensures.widths;
 }
 
 pub returns-in-Err-clause-fault : goal.returns-in-Err-clause-fault
 returns-in-Err-clause-fault c =
     map_fault c.stopped.result _ _
-    (λ f h. c.loop-rest.invariant.says (Err f) (says_stop c.loop-rest.place c.loop-rest.rest.now c.in-Err.stop c.loop-rest.scanner.tokens.items c.loop-rest.scanner.mode (reverse c.loop-rest.scanner.widths.items) f c.in-Err.ensures.flaw h))
+    (λ f h. c.loop-rest.invariant.reads (Err f) (reads_stop c.loop-rest.place c.loop-rest.rest.now c.in-Err.stop c.loop-rest.scanner.tokens.items c.loop-rest.scanner.mode (reverse c.loop-rest.scanner.widths.items) f c.in-Err.ensures.flaw h))
     c.stopped.ensures
 
 pub after-next-requires-clause-at : goal.after-next-requires-clause-at
@@ -48,7 +48,7 @@ step-requires-clause-room c =
 pub returns-in-Err-step-clause-fault : goal.returns-in-Err-step-clause-fault
 returns-in-Err-step-clause-fault c =
     map_fault c.in-Err-step.stop _ _
-    (λ f h. c.loop-rest.invariant.says (Err f) (says_halt c.loop-rest.place c.after-next.result c.loop-rest.rest.now c.in-Ok.piece.1 c.in-Ok.piece.0 c.loop-rest.scanner.tokens.items c.loop-rest.scanner.mode (reverse c.loop-rest.scanner.widths.items) f c.in-Ok.ensures.ok (c.after-next.ensures ∙ ap (after c.loop-rest.place) c.split_at.ensures.front) h))
+    (λ f h. c.loop-rest.invariant.reads (Err f) (reads_halt c.loop-rest.place c.after-next.result c.loop-rest.rest.now c.in-Ok.piece.1 c.in-Ok.piece.0 c.loop-rest.scanner.tokens.items c.loop-rest.scanner.mode (reverse c.loop-rest.scanner.widths.items) f c.in-Ok.ensures.ok (c.after-next.ensures ∙ ap (after c.loop-rest.place) c.split_at.ensures.front) h))
     c.in-Err-step.ensures.fault
 
 pub loop-rest-preserved : goal.loop-rest-preserved
@@ -66,5 +66,5 @@ loop-rest-preserved c =
       at = omega arith;
       line = omega arith;
       within = c.in-Ok-step.ensures.within;
-      says = λ answer h. c.loop-rest.invariant.says answer (says_more c.loop-rest.place c.after-next.result c.loop-rest.rest.now c.split_at.result.1.now c.in-Ok.piece.1 c.in-Ok.piece.0 c.loop-rest.scanner.tokens.items c.step.new.self.tokens.items c.loop-rest.scanner.mode c.step.new.self.mode (reverse c.loop-rest.scanner.widths.items) (reverse c.step.new.self.widths.items) c.in-Ok.ensures.ok (c.after-next.ensures ∙ ap (after c.loop-rest.place) c.split_at.ensures.front) c.split_at.ensures.back c.in-Ok-step.ensures.ok answer h);
+      reads = λ answer h. c.loop-rest.invariant.reads answer (reads_more c.loop-rest.place c.after-next.result c.loop-rest.rest.now c.split_at.result.1.now c.in-Ok.piece.1 c.in-Ok.piece.0 c.loop-rest.scanner.tokens.items c.step.new.self.tokens.items c.loop-rest.scanner.mode c.step.new.self.mode (reverse c.loop-rest.scanner.widths.items) (reverse c.step.new.self.widths.items) c.in-Ok.ensures.ok (c.after-next.ensures ∙ ap (after c.loop-rest.place) c.split_at.ensures.front) c.split_at.ensures.back c.in-Ok-step.ensures.ok answer h);
     }

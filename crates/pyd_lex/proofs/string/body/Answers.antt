@@ -1,5 +1,5 @@
 use Rattle.std.proofs.Common.{length, sym, arith, eqb-true}
-use Rattle.pyd_lex.specs.Ends.{Skips, spelling}
+use Rattle.pyd_lex.specs.Quoted.{Skips, spelling}
 use Rattle.pyd_lex.proofs.Strings.{body_close, body_broken, body_skips, body_missing}
 use Rattle.pyd_lex.proofs.string.body.Goals as goal
 

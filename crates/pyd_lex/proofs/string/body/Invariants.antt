@@ -1,6 +1,6 @@
 use Rattle.std.proofs.Common.{◌≡◌, ℕ, ◌+◌, length, Option}
 use Rattle.pyd_lex.specs.declared.fault.Flaw.{Flaw}
-use Rattle.pyd_lex.specs.Ends.{Ends, spelling}
+use Rattle.pyd_lex.specs.Quoted.{Ends, spelling}
 use Rattle.pyd_lex.proofs.string.body.Given as goal
 
 abbrev pub invariant-loop-rest : goal.invariant-loop-rest

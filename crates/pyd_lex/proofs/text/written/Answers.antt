@@ -1,7 +1,7 @@
 use Rattle.std.proofs.Common.{◌∙◌, sym, encode_utf8_all}
 use Rattle.std.specs.String.{string_bytes}
 use Rattle.pyd_lex.specs.Strings.{value}
-use Rattle.pyd_lex.specs.Ends.{spelling}
+use Rattle.pyd_lex.specs.Quoted.{spelling}
 use Rattle.pyd_lex.proofs.Values.{written_step, written_end}
 use Rattle.pyd_lex.proofs.text.written.Goals as goal
 

@@ -1,7 +1,7 @@
 use Rattle.std.proofs.Common.{◌≡◌, ◌++◌, encode_utf8_all, length}
 use Rattle.std.specs.String.{string_bytes}
 use Rattle.pyd_lex.specs.Strings.{value}
-use Rattle.pyd_lex.specs.Ends.{spelling}
+use Rattle.pyd_lex.specs.Quoted.{spelling}
 use Rattle.pyd_lex.proofs.text.written.Given as goal
 
 abbrev pub invariant-loop-c : goal.invariant-loop-c

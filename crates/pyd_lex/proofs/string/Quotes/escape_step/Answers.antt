@@ -1,6 +1,6 @@
 use Rattle.std.proofs.Common.{◌∙◌, sym, ap, arith, ◌<◌, length}
 use Rattle.pyd_lex.specs.Strings.{escape}
-use Rattle.pyd_lex.specs.Ends.{spelling}
+use Rattle.pyd_lex.specs.Quoted.{spelling}
 use Rattle.pyd_lex.proofs.Pieces.{at_default}
 use Rattle.pyd_lex.proofs.Strings.{step_end, step_escape, step_bad}
 use Rattle.pyd_lex.proofs.string.Quotes.escape_step.Goals as goal

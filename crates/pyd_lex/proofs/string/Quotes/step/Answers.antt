@@ -1,5 +1,5 @@
 use Rattle.std.proofs.Common.{◌∙◌, sym}
-use Rattle.pyd_lex.specs.Ends.{spelling}
+use Rattle.pyd_lex.specs.Quoted.{spelling}
 use Rattle.pyd_lex.proofs.Strings.{step_close, step_nul, step_break, step_plain}
 use Rattle.pyd_lex.proofs.string.Quotes.step.Goals as goal
 

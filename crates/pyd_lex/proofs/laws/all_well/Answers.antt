@@ -1,5 +1,0 @@
-use Rattle.pyd_lex.proofs.First.{all_well}
-use Rattle.pyd_lex.proofs.laws.all_well.Goals as goal
-
-pub returns : goal.returns
-returns c = all_well

@@ -1,0 +1,5 @@
+use Rattle.pyd_lex.proofs.TokenTexts.{token_texts}
+use Rattle.pyd_lex.proofs.laws.token_texts.Goals as goal
+
+pub returns : goal.returns
+returns c = token_texts
