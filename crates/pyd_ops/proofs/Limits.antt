@@ -21,8 +21,8 @@ within_fits : (z : ℤ) → is_within z ≡ true → FitsSigned w128 z
 within_fits (pos n) h = record { sfits = below_when n (2 ^ 127) h }
 within_fits (negsuc n) h = record { sfits = below_when n (2 ^ 127) h }
 
-pub fits : (z : ℤ) → FitsSigned w128 z → within z ≡ Some z
-fits z h = ap (λ b. cond b (Some z) None) (fits_within z h)
+pub some_within : (z : ℤ) → FitsSigned w128 z → within z ≡ Some z
+some_within z h = ap (λ b. cond b (Some z) None) (fits_within z h)
 
 by_test : (z : ℤ) (b : Bool) → is_within z ≡ b → (FitsSigned w128 z → ⊥) → within z ≡ None
 by_test z true e h = absurd (h (within_fits z e))
@@ -33,8 +33,8 @@ fits_not z h = by_test z (is_within z) refl h
 
 pub from_checked : (o : Option ℤ) (z : ℤ) → SomeIff o (FitsSigned w128 z) z → o ≡ within z
 from_checked None z h = sym (fits_not z h)
-from_checked (Some x) z h = ap Some h.1 ∙ sym (fits z h.0)
+from_checked (Some x) z h = ap Some h.1 ∙ sym (some_within z h.0)
 
 -- a number that 128 bits hold is answered as it is
 pub holds : (x y : ℤ) → x ≡ y → FitsSigned w128 y → Some (to_z w128 (of_z w128 x)) ≡ within y
-holds x y e h = ap (λ z. Some (to_z w128 (of_z w128 z))) e ∙ ap Some (to_z-of_z w128 y h) ∙ sym (fits y h)
+holds x y e h = ap (λ z. Some (to_z w128 (of_z w128 z))) e ∙ ap Some (to_z-of_z w128 y h) ∙ sym (some_within y h)

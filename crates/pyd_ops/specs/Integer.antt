@@ -3,7 +3,7 @@ use Rattle.std.specs.Prelude.{ℕ, ℤ, pos, negsuc, ◌^◌, nat_lt, Bool, cond
 use Rattle.pyd_value.specs.declared.value.Value.{Value, Int}
 use Rattle.pyd_value.specs.declared.fault.Fault.{Fault}
 use Rattle.pyd_value.specs.declared.fault.Limit.TheVariants as bound
-use Rattle.pyd_ops.specs.Answer.{exceeds}
+use Rattle.pyd_ops.specs.Answer.{exceed}
 
 -- from -2^127 to 2^127 - 1
 abbrev pub is_within : ℤ → Bool
@@ -15,15 +15,15 @@ abbrev pub within : ℤ → Option ℤ
 within z = cond (is_within z) (Some z) None
 
 -- an integer, or the fault where there is none
-abbrev pub whole : Option ℤ → ℕ → Result Value Fault
-whole (Some z) line = Ok (Int z)
-whole None line = exceeds bound.Int line
+abbrev pub checked : Option ℤ → ℕ → Result Value Fault
+checked (Some z) line = Ok (Int z)
+checked None line = exceed bound.Int line
 
 -- an integer, or the fault where it is too wide
 abbrev pub integer : ℤ → ℕ → Result Value Fault
-integer z line = whole (within z) line
+integer z line = checked (within z) line
 
 -- a number, and 0 where it is below
-abbrev pub at_least_none : ℤ → ℕ
-at_least_none (pos n) = n
-at_least_none (negsuc n) = 0
+abbrev pub positive_part : ℤ → ℕ
+positive_part (pos n) = n
+positive_part (negsuc n) = 0

@@ -3,9 +3,9 @@ pub mod Integer
 pub mod Bits
 pub mod Arithmetic
 pub mod Joining
-pub mod Operation
+pub mod Operators
 pub mod Comparing
-pub mod Spans
+pub mod Ranges
 pub mod Indexing
 pub mod Calls
 pub mod Limits

@@ -9,11 +9,11 @@ use Rattle.pyd_value.specs.declared.operator.CmpOp.{CmpOp}
 use Rattle.pyd_value.specs.declared.operator.Builtin.{Builtin}
 use Rattle.pyd_ops.specs.declared.indexing.Bounds.{Bounds}
 use Rattle.pyd_ops.specs.Integer.{is_within}
-use Rattle.pyd_ops.specs.Joining.{is_held}
-use Rattle.pyd_ops.specs.Operation.{preceded, operated}
-use Rattle.pyd_ops.specs.Comparing.{compared, contained}
-use Rattle.pyd_ops.specs.Indexing.{indexed, sliced}
-use Rattle.pyd_ops.specs.Calls.{called}
+use Rattle.pyd_ops.specs.Joining.{fits}
+use Rattle.pyd_ops.specs.Operators.{unary, binary}
+use Rattle.pyd_ops.specs.Comparing.{compare, contains}
+use Rattle.pyd_ops.specs.Indexing.{index, slice}
+use Rattle.pyd_ops.specs.Calls.{builtin}
 
 -- one level, each member being given by whether its integers are within
 abbrev pub integers_step : Value-F Bool → Bool
@@ -28,7 +28,7 @@ integers_within = fold-Value Bool integers_step
 -- a value within the limits on integers, size and nesting
 pub record Limited (v : Value) : Type 0 where
   pub integers : integers_within v ≡ true
-  pub held : is_held v ≡ true
+  pub size : fits v ≡ true
 
 -- each value of a list within the limits
 abbrev pub EachLimited : List Value → Type 0
@@ -37,10 +37,10 @@ EachLimited (x ∷ xs) = Limited x × EachLimited xs
 
 -- from operands within the limits every operation gives values within them
 pub record OperationsKeepLimits : Type 0 where
-  pub preceded : (op : UnOp) (a v : Value) (line : ℕ) → Limited a → preceded op a line ≡ Ok v → Limited v
-  pub operated : (op : BinOp) (a b v : Value) (line : ℕ) → Limited a → Limited b → operated op a b line ≡ Ok v → Limited v
-  pub compared : (op : CmpOp) (a b v : Value) (line : ℕ) → compared op a b line ≡ Ok v → Limited v
-  pub contained : (a b v : Value) (line : ℕ) → contained a b line ≡ Ok v → Limited v
-  pub indexed : (a i v : Value) (line : ℕ) → Limited a → indexed a i line ≡ Ok v → Limited v
-  pub sliced : (a v : Value) (by : Bounds) (line : ℕ) → Limited a → sliced a by line ≡ Ok v → Limited v
-  pub called : (which : Builtin) (args : List Value) (v : Value) (line : ℕ) → EachLimited args → called which args line ≡ Ok v → Limited v
+  pub unary : (op : UnOp) (a v : Value) (line : ℕ) → Limited a → unary op a line ≡ Ok v → Limited v
+  pub binary : (op : BinOp) (a b v : Value) (line : ℕ) → Limited a → Limited b → binary op a b line ≡ Ok v → Limited v
+  pub compare : (op : CmpOp) (a b v : Value) (line : ℕ) → compare op a b line ≡ Ok v → Limited v
+  pub contains : (a b v : Value) (line : ℕ) → contains a b line ≡ Ok v → Limited v
+  pub index : (a i v : Value) (line : ℕ) → Limited a → index a i line ≡ Ok v → Limited v
+  pub slice : (a v : Value) (by : Bounds) (line : ℕ) → Limited a → slice a by line ≡ Ok v → Limited v
+  pub builtin : (which : Builtin) (args : List Value) (v : Value) (line : ℕ) → EachLimited args → builtin which args line ≡ Ok v → Limited v

@@ -1,6 +1,6 @@
 //! The characters of a text.
 ghost use Rattle.std.specs.Prelude.{◌≡◌, IfOk, string_bytes, encode_utf8_all, map, length};
-ghost use Rattle.pyd_ops.specs.Indexing.{letter};
+ghost use Rattle.pyd_ops.specs.Indexing.{character};
 
 use pyd_value::{List, NoMemory, Text, Value};
 use std::alloc::Global;
@@ -37,19 +37,19 @@ fn spelled(alloc: Global, characters: &[char]) -> Result<String, NoMemory>
 }
 
 /// A character as a text of its own.
-pub(crate) fn letter(alloc: Global, c: char) -> Result<Value, NoMemory>
-    ensures { IfOk result (λ v. v ≡ letter c) }
+pub(crate) fn character(alloc: Global, c: char) -> Result<Value, NoMemory>
+    ensures { IfOk result (λ v. v ≡ character c) }
 {
     Ok(Value::Text(text_from(alloc, &[c])?))
 }
 
 /// Each character as a text of its own.
-pub(crate) fn letters(alloc: Global, characters: &[char]) -> Result<List<Value>, NoMemory>
-    ensures { IfOk result (λ letters. letters ≡ map letter characters.now) }
+pub(crate) fn character_values(alloc: Global, characters: &[char]) -> Result<List<Value>, NoMemory>
+    ensures { IfOk result (λ values. values ≡ map character characters.now) }
 {
-    let mut letters = List::new(alloc);
+    let mut values = List::new(alloc);
     for c in characters {
-        letters.add(letter(alloc, *c)?)?;
+        values.add(character(alloc, *c)?)?;
     }
-    Ok(letters)
+    Ok(values)
 }

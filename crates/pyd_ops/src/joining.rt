@@ -2,8 +2,9 @@
 ghost use Rattle.std.specs.Prelude.{◌≡◌, ◌+◌, ◌-◌, ◌*◌, ◌<◌, ◌≤◌, max, nat_le, nat_lt, ◌&&◌, ◌++◌, IfOk, OnOk, string_bytes};
 ghost use Rattle.std.specs.Str.{chars};
 ghost use Rattle.pyd_value.specs.Size.{size_of, nesting_of};
-ghost use Rattle.pyd_ops.specs.Answer.{answered};
-ghost use Rattle.pyd_ops.specs.Joining.{held_text, text_value, times};
+ghost use Rattle.pyd_ops.specs.Answer.{Answers};
+ghost use Rattle.std.specs.List.{repeat};
+ghost use Rattle.pyd_ops.specs.Joining as spec;
 
 use crate::answer::exceed;
 use pyd_value::{Limit, List, NoMemory, Outcome, Text, Value, nest, size, try_copy};
@@ -17,13 +18,13 @@ const DEEPEST: u32 = 100;
 
 /// One text and then the other, or `SizeLimit`.
 pub(crate) fn join_texts(alloc: Global, s: &Text, t: &Text, line: u32) -> Result<Outcome, NoMemory>
-    ensures { IfOk result (λ outcome. outcome ≡ answered (held_text (s.now ++ t.now) line)) }
+    ensures { Answers result (spec.text_if_fits (s.now ++ t.now) line) }
 {
     let (s, t) = (s.as_str(), t.as_str());
     if s.len().saturating_add(t.len()) as u64 >= LARGEST {
         return Ok(exceed(Limit::Size, line));
     }
-    text(alloc, join_strs(alloc, s, t)?.as_str())
+    text_value(alloc, join_strs(alloc, s, t)?.as_str())
 }
 
 fn join_strs(alloc: Global, s: &str, t: &str) -> Result<String, NoMemory>
@@ -34,28 +35,28 @@ fn join_strs(alloc: Global, s: &str, t: &str) -> Result<String, NoMemory>
     Ok(joined)
 }
 
-fn text(alloc: Global, s: &str) -> Result<Outcome, NoMemory>
-    ensures { IfOk result (λ outcome. outcome ≡ answered (text_value (chars s.now))) }
+fn text_value(alloc: Global, s: &str) -> Result<Outcome, NoMemory>
+    ensures { Answers result (spec.text_value (chars s.now)) }
 {
     Ok(Outcome::Ok(Value::Text(Text::of(alloc, s)?)))
 }
 
 /// A text so many times over, or `SizeLimit`. An empty text stays empty at once.
 pub(crate) fn repeat_text(alloc: Global, s: &Text, n: u128, line: u32) -> Result<Outcome, NoMemory>
-    ensures { IfOk result (λ outcome. outcome ≡ answered (held_text (times n s.now) line)) }
+    ensures { Answers result (spec.text_if_fits (repeat n s.now) line) }
 {
     let s = s.as_str();
     if s.is_empty() {
-        return text(alloc, s);
+        return text_value(alloc, s);
     }
     if n.saturating_mul(s.len() as u128) >= LARGEST as u128 {
         return Ok(exceed(Limit::Size, line));
     }
-    text(alloc, repeat_str(alloc, s, n)?.as_str())
+    text_value(alloc, repeat_str(alloc, s, n)?.as_str())
 }
 
 fn repeat_str(alloc: Global, s: &str, n: u128) -> Result<String, NoMemory>
-    ensures { IfOk result (λ repeated. string_bytes repeated ≡ times n s.now) }
+    ensures { IfOk result (λ repeated. string_bytes repeated ≡ repeat n s.now) }
 {
     let mut repeated = String::new(alloc);
     for _ in 0..n {
@@ -96,7 +97,7 @@ pub(crate) fn join_members(
 
 /// The members so many times over.
 pub(crate) fn repeat_members(alloc: Global, xs: &[Value], n: u128) -> Result<List<Value>, NoMemory>
-    ensures { IfOk result (λ members. members ≡ times n xs.now) }
+    ensures { IfOk result (λ members. members ≡ repeat n xs.now) }
 {
     let mut members = List::new(alloc);
     for _ in 0..n {

@@ -10,15 +10,13 @@ mod comparing;
 mod indexing;
 mod joining;
 mod laws;
-mod membership;
 mod operators;
 mod ranges;
 
 pub use calls::builtin;
-pub use comparing::compare;
+pub use comparing::{compare, contains};
 pub use indexing::{Bounds, index, slice};
 pub use laws::operations_keep_limits;
-pub use membership::contains;
 pub use operators::{binary, unary};
 pub use pyd_value::Builtin;
 pub use ranges::{Span, range_of};

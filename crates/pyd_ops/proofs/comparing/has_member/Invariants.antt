@@ -2,7 +2,7 @@
 use Rattle.std.proofs.Common.{◌≡◌, drop}
 use Rattle.std.specs.List.{list_any}
 use Rattle.pyd_value.specs.Equality.{is_equal}
-use Rattle.pyd_ops.proofs.membership.has_member.Given as goal
+use Rattle.pyd_ops.proofs.comparing.has_member.Given as goal
 
 abbrev pub invariant-loop-member : goal.invariant-loop-member
 invariant-loop-member l =

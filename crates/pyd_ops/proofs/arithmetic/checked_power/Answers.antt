@@ -1,7 +1,7 @@
 -- From an exponent of 128 on few bases have a power within the limits.
 use Rattle.std.proofs.Common.{inl, inr}
 use Rattle.pyd_ops.proofs.Powers.{base_kept, even_base, odd_base, base_past}
-use Rattle.pyd_ops.proofs.arithmetic.power.Goals as goal
+use Rattle.pyd_ops.proofs.arithmetic.checked_power.Goals as goal
 
 pub returns-then-n-eq0 : goal.returns-then-n-eq0
 returns-then-n-eq0 c = even_base c.args.m c.args.n c.ranges.m c.if-m-eqminus1.true c.if-n-eq0.true

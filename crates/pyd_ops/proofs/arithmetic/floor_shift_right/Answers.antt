@@ -1,6 +1,6 @@
 -- No more than 127 places matter.
 use Rattle.pyd_ops.proofs.Division.{shifts_down}
-use Rattle.pyd_ops.proofs.arithmetic.shifted_down.Goals as goal
+use Rattle.pyd_ops.proofs.arithmetic.floor_shift_right.Goals as goal
 
 pub returns-clause-value : goal.returns-clause-value
 returns-clause-value c =

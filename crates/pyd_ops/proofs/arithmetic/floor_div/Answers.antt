@@ -2,8 +2,8 @@
 use Rattle.std.proofs.Common.{◌≡◌, FitsSigned, rules}
 use Rattle.std.specs.Int.{w128, int_div_euclid}
 use Rattle.pyd_ops.proofs.Division.{quotient_lower, quotient_kept, quotient_exact, quotient_upper}
-use Rattle.pyd_ops.proofs.arithmetic.quotient.Goals as goal
-use Rattle.pyd_ops.proofs.arithmetic.quotient.Goals.{else-n-lt0-via-then-n-lt0+else-wrapping_rem_euclid-ne0, else-n-lt0-via-else-n-lt0}
+use Rattle.pyd_ops.proofs.arithmetic.floor_div.Goals as goal
+use Rattle.pyd_ops.proofs.arithmetic.floor_div.Goals.{else-n-lt0-via-then-n-lt0+else-wrapping_rem_euclid-ne0, else-n-lt0-via-else-n-lt0}
 
 pub returns-then-wrapping_rem_euclid-ne0 : goal.returns-then-wrapping_rem_euclid-ne0
 returns-then-wrapping_rem_euclid-ne0 c =

@@ -1,6 +1,6 @@
 -- The remainder that isn't negative is a divisor too great where the divisor is negative and it isn't 0.
 use Rattle.pyd_ops.proofs.Division.{rest_lower, rest_upper}
-use Rattle.pyd_ops.proofs.arithmetic.remainder.Goals as goal
+use Rattle.pyd_ops.proofs.arithmetic.floor_rem.Goals as goal
 
 pub returns-then-rest-ne0-clause-value : goal.returns-then-rest-ne0-clause-value
 returns-then-rest-ne0-clause-value c =
