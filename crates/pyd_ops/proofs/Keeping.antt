@@ -28,7 +28,7 @@ use Rattle.pyd_value.specs.declared.operator.CmpOp.TheVariants.{Eq, Ne, Lt, Le, 
 use Rattle.pyd_value.specs.Truth.{is_true}
 use Rattle.pyd_value.specs.Equality.{is_equal}
 use Rattle.pyd_ops.specs.Comparing.{truth_value, order_is, membership, contains, compare}
-use Rattle.pyd_ops.specs.Limits.{integers_step, integers_within, Limited}
+use Rattle.pyd_ops.specs.Limited.{integers_step, integers_within, Limited}
 
 pub at_most : (n m : ℕ) → n ≤ m → nat_le n m ≡ true
 at_most n m h = grind arith

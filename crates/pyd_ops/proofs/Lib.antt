@@ -7,3 +7,8 @@ pub mod Repeats
 pub mod Holding
 pub mod Keeping
 pub mod Parts
+pub mod Counting
+pub mod Dividing
+pub mod Slicing
+pub mod Ranging
+pub mod Keeps

@@ -4,20 +4,20 @@ use Rattle.std.proofs.lemmas.Int.{to_z-of_z}
 use Rattle.std.specs.Int.{w128}
 use Rattle.pyd_ops.specs.Integer.{is_within, within}
 
-below : (n m : ℕ) → n < m → nat_lt n m ≡ true
+pub below : (n m : ℕ) → n < m → nat_lt n m ≡ true
 below n m h = grind arith
 
 not_below : (n m : ℕ) → m ≤ n → nat_lt n m ≡ false
 not_below n m h = grind arith
 
-below_when : (n m : ℕ) → nat_lt n m ≡ true → n < m
+pub below_when : (n m : ℕ) → nat_lt n m ≡ true → n < m
 below_when n m h = grind arith
 
-fits_within : (z : ℤ) → FitsSigned w128 z → is_within z ≡ true
+pub fits_within : (z : ℤ) → FitsSigned w128 z → is_within z ≡ true
 fits_within (pos n) h = below n (2 ^ 127) h.sfits
 fits_within (negsuc n) h = below n (2 ^ 127) h.sfits
 
-within_fits : (z : ℤ) → is_within z ≡ true → FitsSigned w128 z
+pub within_fits : (z : ℤ) → is_within z ≡ true → FitsSigned w128 z
 within_fits (pos n) h = record { sfits = below_when n (2 ^ 127) h }
 within_fits (negsuc n) h = record { sfits = below_when n (2 ^ 127) h }
 

@@ -17,7 +17,8 @@ use Rattle.pyd_value.proofs.Constructs.{size_of-tuple, nesting_of-tuple}
 use Rattle.pyd_ops.specs.Operators.{binary}
 use Rattle.pyd_ops.specs.Indexing.{place, at_place, item, character, item_or_error, index_in, bound_position, items_between, slice_items, bound, slice_in}
 use Rattle.pyd_ops.specs.Calls.{items_in, items, len, absolute, branch, choose_best, replaces, choose_item, choose, and_then, sum_items, sum, builtin}
-use Rattle.pyd_ops.specs.Limits.{integers_step, integers_within, Limited, EachLimited, OperationsKeepLimits}
+use Rattle.pyd_ops.specs.Integer.{is_within}
+use Rattle.pyd_ops.specs.Limited.{integers_step, integers_within, Limited, EachLimited}
 use Rattle.pyd_ops.proofs.Holding.{total_joined, greatest_joined}
 use Rattle.pyd_ops.proofs.Keeping.{both, pair, at_most, map_members, integers-tuple, same_value, integer_limited, limited_int, limited_truth, limited_text, unary_limited, binary_limited, compare_limited, contains_limited}
 
@@ -25,28 +26,28 @@ when_at_most : (n m : ℕ) → nat_le n m ≡ true → n ≤ m
 when_at_most n m h = grind arith
 
 -- members within the limits, together
-record Bounded (xs : List Value) : Type 0 where
+pub record Bounded (xs : List Value) : Type 0 where
   pub integers : list_all integers_within xs ≡ true
   pub size : total (map size_of xs) < 1048576
   pub depth : greatest (map nesting_of xs) < 100
 
 -- what a shape of a value within the limits holds
-abbrev Inside : Shape Value → Type 0
-Inside (number n) = Unit
+abbrev pub Inside : Shape Value → Type 0
+Inside (number n) = is_within n ≡ true
 Inside (text s) = length (encode_utf8_all s) < 1048576
 Inside (tuple xs) = Bounded xs
 Inside nothing = Unit
 
 level_inside : (l : Value-F Value) → integers_step (map-Value Value Bool integers_within l) ≡ true
     → size_step (map-Value Value ℕ size_of l) ≤ 1048576 → nesting_step (map-Value Value ℕ nesting_of l) ≤ 100 → Inside (shape_in l)
-level_inside (Value-F.Int n) e h k = tt
-level_inside (Value-F.Bool true) e h k = tt
-level_inside (Value-F.Bool false) e h k = tt
+level_inside (Value-F.Int n) e h k = e
+level_inside (Value-F.Bool true) e h k = refl
+level_inside (Value-F.Bool false) e h k = refl
 level_inside (Value-F.Text s) e h k = omega arith
 level_inside (Value-F.Tuple xs) e h k = record { integers = sym (map_members xs) ∙ e; size = omega arith; depth = omega arith }
 level_inside Value-F.None e h k = tt
 
-inside : (a : Value) → Limited a → Inside (shape_of a)
+pub inside : (a : Value) → Limited a → Inside (shape_of a)
 inside a h =
     let t = both (nat_le (size_of a) 1048576) (nat_le (nesting_of a) 100) h.size in
     level_inside (out-Value a) (sym (fold_out-Value Bool integers_step a) ∙ h.integers)
@@ -99,7 +100,7 @@ item_limited : (xs : List Value) (o : Option ℕ) (v : Value) (line : ℕ) → E
 item_limited xs (Some k) v line h e = member_limited xs k v line h e
 item_limited xs None v line h e = cc
 
-index_limited : (x : Shape Value) (i : Option ℤ) (v : Value) (line : ℕ) → Inside x → index_in x i line ≡ Ok v → Limited v
+pub index_limited : (x : Shape Value) (i : Option ℤ) (v : Value) (line : ℕ) → Inside x → index_in x i line ≡ Ok v → Limited v
 index_limited (number n) i v line h e = cc
 index_limited (text s) (Some i) v line h e = character_limited (item s i) v line e
 index_limited (text s) None v line h e = cc
@@ -137,7 +138,7 @@ split_at n xs b = split (take n xs) (drop n xs) (subst Bounded (sym (take-append
 between_members : (xs : List Value) (low high : ℕ) → Bounded xs → Bounded (items_between xs low high)
 between_members xs low high b = (split_at (high - low) (drop low xs) (split_at low xs b).1).0
 
-slice_limited : (x : Shape Value) (low high : Option (Option ℤ)) (v : Value) (line : ℕ) → Inside x → slice_in x low high line ≡ Ok v → Limited v
+pub slice_limited : (x : Shape Value) (low high : Option (Option ℤ)) (v : Value) (line : ℕ) → Inside x → slice_in x low high line ≡ Ok v → Limited v
 slice_limited (number n) low high v line h e = cc
 slice_limited (text s) (Some low) (Some high) v line h e =
     same_value (Text (slice_items s low high)) v e (limited_text (slice_items s low high) (between_text s (bound_position low 0 (length s)) (bound_position high (length s) (length s)) h))
@@ -221,7 +222,7 @@ sum_limited (tuple ys) start None v line h k e = cc
 sum_limited nothing start (Some xs) v line h k e = sum_items_limited start xs v line h k e
 sum_limited nothing start None v line h k e = cc
 
-builtin_limited : (which : Builtin) (args : List Value) (v : Value) (line : ℕ) → EachLimited args → builtin which args line ≡ Ok v → Limited v
+pub builtin_limited : (which : Builtin) (args : List Value) (v : Value) (line : ℕ) → EachLimited args → builtin which args line ≡ Ok v → Limited v
 builtin_limited variant.Len [] v line h e = cc
 builtin_limited variant.Len (a ∷ []) v line h e = length_limited (items a) v line e
 builtin_limited variant.Len (a ∷ b ∷ args) v line h e = cc
@@ -243,14 +244,3 @@ builtin_limited variant.Str args v line h e = cc
 builtin_limited variant.Repr args v line h e = cc
 builtin_limited variant.Int args v line h e = cc
 builtin_limited variant.Range args v line h e = cc
-
-pub operations_keep_limits : OperationsKeepLimits
-operations_keep_limits = record {
-  unary = λ op a v line h e. unary_limited op a v line e;
-  binary = binary_limited;
-  compare = compare_limited;
-  contains = contains_limited;
-  index = λ a i v line h e. index_limited (shape_of a) (number_of i) v line (inside a h) e;
-  slice = λ a v by line h e. slice_limited (shape_of a) (bound by.low) (bound by.high) v line (inside a h) e;
-  builtin = builtin_limited;
-}

@@ -56,7 +56,7 @@ substring_so [] s b = substring_front s (s ++ b) (prefix_so s b)
 substring_so (d ∷ a) s b =
     ap (λ q. is_prefix s (d ∷ (a ++ (s ++ b))) || q) (substring_so a s b) ∙ or_true (is_prefix s (d ∷ (a ++ (s ++ b))))
 
-substring_decides : (s t : List ℕ) → Decides (is_substring s t) (HasSubslice t s)
+pub substring_decides : (s t : List ℕ) → Decides (is_substring s t) (HasSubslice t s)
 substring_decides s t = (substring_when s t, λ h. ap (is_substring s) h.2 ∙ substring_so h.0 s h.1)
 
 -- the bytes of a text that aren't none begin a character

@@ -8,4 +8,5 @@ pub mod Comparing
 pub mod Ranges
 pub mod Indexing
 pub mod Calls
-pub mod Limits
+pub mod Limited
+pub mod Laws

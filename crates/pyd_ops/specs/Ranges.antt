@@ -1,5 +1,5 @@
 -- The numbers of a `range` (the library's "Ranges"): a first one, a step and how many there are.
-use Rattle.std.specs.Prelude.{ℕ, zero, suc, ◌-◌, ◌^◌, min, ℤ, pos, negsuc, ◌-ℤ◌, List, [], ◌∷◌, Option, Some, map, Result, Ok}
+use Rattle.std.specs.Prelude.{ℕ, zero, suc, ◌-◌, ◌^◌, min, ℤ, pos, negsuc, ◌+ℤ◌, ◌-ℤ◌, ◌*ℤ◌, List, [], ◌∷◌, Option, Some, map, Result, Ok}
 use Rattle.std.specs.Int.{div_ceil}
 use Rattle.pyd_value.specs.declared.value.Value.{Value}
 use Rattle.pyd_value.specs.declared.fault.Fault.{Fault}
@@ -8,6 +8,10 @@ use Rattle.pyd_value.specs.Shape.{number_of}
 use Rattle.pyd_ops.specs.declared.ranges.Span.{Span}
 use Rattle.pyd_ops.specs.Answer.{raise}
 use Rattle.pyd_ops.specs.Integer.{positive_part}
+
+-- number t of a range, counted from 0
+abbrev pub number_at : Span → ℕ → ℤ
+number_at span t = span.from +ℤ (pos t *ℤ span.step)
 
 -- how many of a, a + s and so on come before b, going up or going down
 abbrev pub count : ℤ → ℤ → ℤ → ℕ

@@ -16,7 +16,10 @@ mod ranges;
 pub use calls::builtin;
 pub use comparing::{compare, contains};
 pub use indexing::{Bounds, index, slice};
-pub use laws::operations_keep_limits;
+pub use laws::{
+    operations_keep_limits, quotient_and_remainder_go_together, range_counts_to_its_end,
+    slice_has_the_items_between, substring_is_a_middle,
+};
 pub use operators::{binary, unary};
 pub use pyd_value::Builtin;
 pub use ranges::{Span, range_of};
