@@ -12,6 +12,7 @@ TUPLES = [(), (0,), (False,), (1,), (True,), (2,), (1, 0), (1, 2), (1, None), (0
           (None, 1), (None, 2), ((),), ((), ()), ((1,),), ((True,),), ((1,), 2), ("a",), ("b",),
           ("a", 1), (1, "a"), ("",), (((),),), ((((),),),)]
 VALUES = [None, False, True] + INTS + TEXTS + TUPLES
+WORDS = ["", "a", "Bob", "\x00~", "\x7f", "\x80", "h\u00e9", "\u65e5\u672c", "a\U00010000b"]
 # each member of a tuple is itself a value that stands before it
 
 
@@ -62,3 +63,6 @@ table("MEASURES", "(bool, u64, u32)",
       [(f"({str(bool(v)).lower()}, {size(v)}, {nesting(v)})", ascii(v)) for v in VALUES])
 print("\n// Of each value with each: `=` equal, `<` less, `>` neither, `.` unequal with no order, `~` equal with no order.", end="")
 table("ANSWERS", "&str", [('"' + "".join(answer(a, b) for b in VALUES) + '"', "") for a in VALUES])
+print("\n// Texts, with whether they are ASCII, and their characters.", end="")
+table("WORDS", "(&str, bool, &[u32])",
+      [(f"({literal(word)}, {str(word.isascii()).lower()}, &{[ord(c) for c in word]})", "") for word in WORDS])
