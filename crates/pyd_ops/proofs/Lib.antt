@@ -7,6 +7,8 @@ pub mod Repeats
 pub mod Holding
 pub mod Keeping
 pub mod Parts
+pub mod Characters
+pub mod Summing
 pub mod Counting
 pub mod Dividing
 pub mod Slicing

@@ -14,9 +14,11 @@ use Rattle.pyd_value.specs.Shape.{Shape, number, text, tuple, nothing, shape_in,
 use Rattle.pyd_value.specs.Size.{size_of, nesting_of, total, greatest, size_step, nesting_step}
 use Rattle.pyd_value.specs.Truth.{is_true}
 use Rattle.pyd_value.proofs.Constructs.{size_of-tuple, nesting_of-tuple}
+use Rattle.pyd_ops.specs.declared.extremes.Extreme.TheVariants.{Least, Greatest}
 use Rattle.pyd_ops.specs.Operators.{binary}
-use Rattle.pyd_ops.specs.Indexing.{place, at_place, item, character, item_or_error, index_in, bound_position, items_between, slice_items, bound, slice_in}
-use Rattle.pyd_ops.specs.Calls.{items_in, items, len, absolute, branch, choose_best, replaces, choose_item, choose, and_then, sum_items, sum, builtin}
+use Rattle.pyd_ops.specs.Indexing.{place, at_place, item, item_or_error, index_in, bound_position, items_between, slice_items, bound, slice_in}
+use Rattle.pyd_ops.specs.Sequence.{character, items_in, items}
+use Rattle.pyd_ops.specs.Calls.{len, absolute, branch, choose_best, replaces, choose_item, choose, and_then, sum_items, sum, builtin}
 use Rattle.pyd_ops.specs.Integer.{is_within}
 use Rattle.pyd_ops.specs.Limited.{integers_step, integers_within, Limited, EachLimited}
 use Rattle.pyd_ops.proofs.Holding.{total_joined, greatest_joined}
@@ -229,8 +231,8 @@ builtin_limited variant.Len (a ∷ b ∷ args) v line h e = cc
 builtin_limited variant.Abs [] v line h e = cc
 builtin_limited variant.Abs (a ∷ []) v line h e = absolute_limited (number_of a) v line e
 builtin_limited variant.Abs (a ∷ b ∷ args) v line h e = cc
-builtin_limited variant.Min args v line h e = choose_limited (replaces variant.Min) args v line h e
-builtin_limited variant.Max args v line h e = choose_limited (replaces variant.Max) args v line h e
+builtin_limited variant.Min args v line h e = choose_limited (replaces Least) args v line h e
+builtin_limited variant.Max args v line h e = choose_limited (replaces Greatest) args v line h e
 builtin_limited variant.Sum [] v line h e = cc
 builtin_limited variant.Sum (a ∷ []) v line h e =
     sum_limited (number (pos 0)) (Int (pos 0)) (items a) v line (limited_int (pos 0) refl) (items_limited a h.0) e

@@ -1,5 +1,5 @@
 -- The builtin functions of values (the library's "Built-in Functions").
-use Rattle.std.specs.Prelude.{ℕ, ℤ, pos, unsigned_abs, List, [], ◌∷◌, map, length, Bool, true, false, cond, Option, Some, None, Result, Ok, Err}
+use Rattle.std.specs.Prelude.{ℕ, ℤ, pos, unsigned_abs, List, [], ◌∷◌, length, Bool, true, false, cond, Option, Some, None, Result, Ok, Err}
 use Rattle.std.specs.Ordering.{is_lt, is_gt}
 use Rattle.pyd_value.specs.declared.value.Value.{Value, Int, Bool as Truth}
 use Rattle.pyd_value.specs.declared.fault.Fault.{Fault}
@@ -7,22 +7,15 @@ use Rattle.pyd_value.specs.declared.fault.Kind.TheVariants.{TypeError, ValueErro
 use Rattle.pyd_value.specs.declared.operator.BinOp.TheVariants.{Add}
 use Rattle.pyd_value.specs.declared.operator.Builtin.{Builtin}
 use Rattle.pyd_value.specs.declared.operator.Builtin.TheVariants as variant
-use Rattle.pyd_value.specs.Shape.{Shape, number, text, tuple, shape_of, number_of}
+use Rattle.pyd_value.specs.Shape.{Shape, number, text, shape_of, number_of}
 use Rattle.pyd_value.specs.Truth.{is_true}
+use Rattle.pyd_ops.specs.declared.extremes.Extreme.{Extreme}
+use Rattle.pyd_ops.specs.declared.extremes.Extreme.TheVariants.{Least, Greatest}
 use Rattle.pyd_ops.specs.Answer.{raise}
 use Rattle.pyd_ops.specs.Integer.{integer}
 use Rattle.pyd_ops.specs.Operators.{binary}
 use Rattle.pyd_ops.specs.Comparing.{order_is}
-use Rattle.pyd_ops.specs.Indexing.{character}
-
--- the members of a tuple or the characters of a text
-abbrev pub items_in : Shape Value → Option (List Value)
-items_in (text s) = Some (map character s)
-items_in (tuple xs) = Some xs
-items_in a = None
-
-abbrev pub items : Value → Option (List Value)
-items a = items_in (shape_of a)
+use Rattle.pyd_ops.specs.Sequence.{items}
 
 -- how many items there are
 abbrev pub len : Option (List Value) → ℕ → Result Value Fault
@@ -44,10 +37,10 @@ abbrev pub choose_best : (Value → Value → Option Bool) → Value → List Va
 choose_best test x [] line = Ok x
 choose_best test x (y ∷ ys) line = branch (test y x) (choose_best test y ys line) (choose_best test x ys line) line
 
--- what a candidate must be to beat the best so far: less for `min`, greater for `max`
-abbrev pub replaces : Builtin → Value → Value → Option Bool
-replaces variant.Max = order_is is_gt
-replaces which = order_is is_lt
+-- a candidate takes the place of the best so far only where it is less, or greater
+abbrev pub replaces : Extreme → Value → Value → Option Bool
+replaces Least = order_is is_lt
+replaces Greatest = order_is is_gt
 
 -- the best of all candidates, if there are any
 abbrev pub choose_item : (Value → Value → Option Bool) → Option (List Value) → ℕ → Result Value Fault
@@ -81,8 +74,8 @@ sum shape start None line = raise TypeError line
 abbrev pub builtin : Builtin → List Value → ℕ → Result Value Fault
 builtin variant.Len (a ∷ []) line = len (items a) line
 builtin variant.Abs (a ∷ []) line = absolute (number_of a) line
-builtin variant.Min args line = choose (replaces variant.Min) args line
-builtin variant.Max args line = choose (replaces variant.Max) args line
+builtin variant.Min args line = choose (replaces Least) args line
+builtin variant.Max args line = choose (replaces Greatest) args line
 builtin variant.Sum (a ∷ []) line = sum (number (pos 0)) (Int (pos 0)) (items a) line
 builtin variant.Sum (a ∷ start ∷ []) line = sum (shape_of start) start (items a) line
 builtin variant.Bool [] line = Ok (Truth false)

@@ -6,6 +6,7 @@ use Rattle.pyd_value.specs.declared.fault.Kind.TheVariants.{TypeError, IndexErro
 use Rattle.pyd_value.specs.Shape.{Shape, number, text, tuple, nothing, shape_of, number_of}
 use Rattle.pyd_ops.specs.declared.indexing.Bounds.{Bounds}
 use Rattle.pyd_ops.specs.Answer.{raise}
+use Rattle.pyd_ops.specs.Sequence.{character}
 
 -- where an index points in so many items, a negative one being counted from the end
 abbrev pub place : ℤ → ℕ → Option ℕ
@@ -20,10 +21,6 @@ at_place xs None = None
 -- the item at an index
 abbrev pub item : {A : Type 0} → List A → ℤ → Option A
 item xs i = at_place xs (place i (length xs))
-
--- a text of one character
-abbrev pub character : ℕ → Value
-character c = Text (c ∷ [])
 
 -- a value, or the fault where there is none
 abbrev pub item_or_error : {A : Type 0} → (A → Value) → Option A → ℕ → Result Value Fault

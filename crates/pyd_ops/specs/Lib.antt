@@ -6,6 +6,7 @@ pub mod Joining
 pub mod Operators
 pub mod Comparing
 pub mod Ranges
+pub mod Sequence
 pub mod Indexing
 pub mod Calls
 pub mod Limited

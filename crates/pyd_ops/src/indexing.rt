@@ -2,10 +2,11 @@
 ghost use Rattle.std.specs.Prelude.{◌≡◌, ◌≤◌, ◌<◌, length, IfOk, IfSome, Some};
 ghost use Rattle.pyd_value.specs.Shape.{shape_of};
 ghost use Rattle.pyd_ops.specs.Answer.{Answers};
+ghost use Rattle.pyd_ops.specs.Sequence.{character};
 ghost use Rattle.pyd_ops.specs.Indexing as spec;
 
 use crate::answer::raise;
-use crate::characters::{character, characters, text_from};
+use crate::sequence::{character, characters, text_from};
 use pyd_value::{Kind, NoMemory, Outcome, Text, Value, number, try_copy, try_copy_members};
 use std::alloc::Global;
 
@@ -38,12 +39,21 @@ fn index_tuple(alloc: Global, members: &[Value], i: i128, line: u32) -> Result<O
 }
 
 fn index_text(alloc: Global, text: &Text, i: i128, line: u32) -> Result<Outcome, NoMemory>
-    ensures { Answers result (spec.item_or_error spec.character (spec.item text.now i) line) }
+    ensures { Answers result (spec.item_or_error character (spec.item text.now i) line) }
 {
-    let characters = characters(alloc, text)?;
-    match place(i, characters.len()) {
-        Some(at) => Ok(Outcome::Ok(character(alloc, characters[at])?)),
+    match character_of(text, i) {
+        Some(c) => Ok(Outcome::Ok(character(alloc, c)?)),
         None => Ok(raise(Kind::IndexError, line)),
+    }
+}
+
+/// The character at an index. Where the text is ASCII no other is walked.
+fn character_of(text: &Text, i: i128) -> Option<char>
+    ensures { result ≡ spec.item text.now i }
+{
+    match place(i, text.count()) {
+        Some(at) => text.get(at),
+        None => None,
     }
 }
 

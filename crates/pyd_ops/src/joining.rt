@@ -24,7 +24,8 @@ pub(crate) fn join_texts(alloc: Global, s: &Text, t: &Text, line: u32) -> Result
     if s.len().saturating_add(t.len()) as u64 >= LARGEST {
         return Ok(exceed(Limit::Size, line));
     }
-    text_value(alloc, join_strs(alloc, s, t)?.as_str())
+    let joined = join_strs(alloc, s, t)?;
+    text_value(alloc, joined)
 }
 
 fn join_strs(alloc: Global, s: &str, t: &str) -> Result<String, NoMemory>
@@ -35,10 +36,10 @@ fn join_strs(alloc: Global, s: &str, t: &str) -> Result<String, NoMemory>
     Ok(joined)
 }
 
-fn text_value(alloc: Global, s: &str) -> Result<Outcome, NoMemory>
-    ensures { Answers result (spec.text_value (chars s.now)) }
+fn text_value(alloc: Global, s: String) -> Result<Outcome, NoMemory>
+    ensures { Answers result (spec.text_value (chars (string_bytes s))) }
 {
-    Ok(Outcome::Ok(Value::Text(Text::of(alloc, s)?)))
+    Ok(Outcome::Ok(Value::Text(Text::from_string(alloc, s)?)))
 }
 
 /// A text so many times over, or `SizeLimit`. An empty text stays empty at once.
@@ -47,12 +48,13 @@ pub(crate) fn repeat_text(alloc: Global, s: &Text, n: u128, line: u32) -> Result
 {
     let s = s.as_str();
     if s.is_empty() {
-        return text_value(alloc, s);
+        return text_value(alloc, String::new(alloc));
     }
     if n.saturating_mul(s.len() as u128) >= LARGEST as u128 {
         return Ok(exceed(Limit::Size, line));
     }
-    text_value(alloc, repeat_str(alloc, s, n)?.as_str())
+    let repeated = repeat_str(alloc, s, n)?;
+    text_value(alloc, repeated)
 }
 
 fn repeat_str(alloc: Global, s: &str, n: u128) -> Result<String, NoMemory>

@@ -5,17 +5,20 @@
 mod answer;
 mod arithmetic;
 mod calls;
-mod characters;
 mod comparing;
+mod extremes;
 mod indexing;
+mod sequence;
 mod joining;
 mod laws;
 mod operators;
 mod ranges;
+mod sums;
 
 pub use calls::builtin;
 pub use comparing::{compare, contains};
 pub use indexing::{Bounds, index, slice};
+pub use sequence::{item_at, items};
 pub use laws::{
     operations_keep_limits, quotient_and_remainder_go_together, range_counts_to_its_end,
     slice_has_the_items_between, substring_is_a_middle,

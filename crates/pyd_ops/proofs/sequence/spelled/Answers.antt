@@ -1,6 +1,6 @@
 use Rattle.std.proofs.Common.{◌≡◌, ◌++◌, ◌∙◌, ap, string_bytes, rules, encode_utf8}
 use Rattle.pyd_ops.proofs.Repeats.{spelled_more}
-use Rattle.pyd_ops.proofs.characters.spelled.Goals as goal
+use Rattle.pyd_ops.proofs.sequence.spelled.Goals as goal
 
 pub loop-c-preserved : goal.loop-c-preserved
 loop-c-preserved c =

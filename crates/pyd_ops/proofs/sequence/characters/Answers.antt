@@ -1,7 +1,7 @@
 use Rattle.std.proofs.Common.{◌≡◌, ◌∙◌, rules}
 use Rattle.std.specs.Str.{chars}
 use Rattle.std.proofs.lemmas.Str.{chars_from_encodes}
-use Rattle.pyd_ops.proofs.characters.characters.Goals as goal
+use Rattle.pyd_ops.proofs.sequence.characters.Goals as goal
 
 pub returns : goal.returns
 returns c =

@@ -1,7 +1,7 @@
 -- The best so far among those that are left gives the best of all.
 use Rattle.std.proofs.Common.{◌≡◌, drop}
 use Rattle.pyd_ops.specs.Calls.{choose_best, replaces}
-use Rattle.pyd_ops.proofs.calls.choose_best.Given as goal
+use Rattle.pyd_ops.proofs.extremes.choose_best.Given as goal
 
 abbrev pub invariant-loop-candidate : goal.invariant-loop-candidate
 invariant-loop-candidate l =
