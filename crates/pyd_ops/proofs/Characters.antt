@@ -1,15 +1,12 @@
 -- The greatest and the least character, as candidates that take the place of the best so far.
-use Rattle.std.proofs.Common.{◌≡◌, ℕ, max, min, nat_lt, List, [], ◌∷◌, map, Bool, true, false, cond, Option, Some, None, option_map, Result, Ok, refl, sym, ap, ◌∙◌, arith}
+use Rattle.std.proofs.Common.{◌≡◌, ℕ, max, min, nat_lt, List, [], ◌∷◌, map, Bool, true, false, cond, Option, Some, None, option_map, Result, Ok, refl, ap, ◌∙◌, arith}
 use Rattle.std.specs.List.{reduce, fold}
 use Rattle.std.specs.Ordering.{is_lt, is_gt, nat_cmp}
 use Rattle.std.specs.declared.cmp.Ordering.{Ordering}
 use Rattle.std.specs.Cmp.Lexicographic.{slice_cmp}
-use Rattle.pyd_value.specs.declared.value.Value.{Value, Text}
+use Rattle.pyd_value.specs.declared.value.Value.{Value}
 use Rattle.pyd_value.specs.declared.fault.Fault.{Fault}
 use Rattle.pyd_value.specs.declared.fault.Kind.TheVariants.{ValueError}
-use Rattle.pyd_value.specs.declared.operator.Builtin.{Builtin}
-use Rattle.pyd_value.specs.declared.operator.Builtin.TheVariants as variant
-use Rattle.pyd_value.specs.Shape.{shape_of}
 use Rattle.pyd_value.specs.Comparison.{comparison_of}
 use Rattle.pyd_value.specs.Order.{ordered}
 use Rattle.pyd_value.proofs.Constructs.{shape_of-text, comparison_of-texts}

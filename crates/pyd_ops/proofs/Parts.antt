@@ -16,13 +16,13 @@ use Rattle.pyd_value.specs.Truth.{is_true}
 use Rattle.pyd_value.proofs.Constructs.{size_of-tuple, nesting_of-tuple}
 use Rattle.pyd_ops.specs.declared.extremes.Extreme.TheVariants.{Least, Greatest}
 use Rattle.pyd_ops.specs.Operators.{binary}
-use Rattle.pyd_ops.specs.Indexing.{place, at_place, item, item_or_error, index_in, bound_position, items_between, slice_items, bound, slice_in}
+use Rattle.pyd_ops.specs.Indexing.{place, at_place, item, item_or_error, index_in, bound_position, items_between, slice_items, slice_in}
 use Rattle.pyd_ops.specs.Sequence.{character, items_in, items}
-use Rattle.pyd_ops.specs.Calls.{len, absolute, branch, choose_best, replaces, choose_item, choose, and_then, sum_items, sum, builtin}
+use Rattle.pyd_ops.specs.Calls.{len, absolute, branch, choose_best, replaces, choose_item, choose, and_then, sum_items, sum_in, builtin}
 use Rattle.pyd_ops.specs.Integer.{is_within}
 use Rattle.pyd_ops.specs.Limited.{integers_step, integers_within, Limited, EachLimited}
 use Rattle.pyd_ops.proofs.Holding.{total_joined, greatest_joined}
-use Rattle.pyd_ops.proofs.Keeping.{both, pair, at_most, map_members, integers-tuple, same_value, integer_limited, limited_int, limited_truth, limited_text, unary_limited, binary_limited, compare_limited, contains_limited}
+use Rattle.pyd_ops.proofs.Keeping.{both, pair, at_most, map_members, integers-tuple, same_value, integer_limited, limited_int, limited_truth, limited_text, binary_limited}
 
 when_at_most : (n m : ℕ) → nat_le n m ≡ true → n ≤ m
 when_at_most n m h = grind arith
@@ -215,7 +215,7 @@ sum_items_limited start (x ∷ xs) v line h k e =
     step_limited (binary Add start x line) (λ u. sum_items u xs line) v
     (λ u f. binary_limited Add start x u line h k.0 f) (λ u g f. sum_items_limited u xs v line g k.1 f) e
 
-sum_limited : (x : Shape Value) (start : Value) (o : Option (List Value)) (v : Value) (line : ℕ) → Limited start → Items o → sum x start o line ≡ Ok v → Limited v
+sum_limited : (x : Shape Value) (start : Value) (o : Option (List Value)) (v : Value) (line : ℕ) → Limited start → Items o → sum_in x start o line ≡ Ok v → Limited v
 sum_limited (text s) start o v line h k e = cc
 sum_limited (number n) start (Some xs) v line h k e = sum_items_limited start xs v line h k e
 sum_limited (number n) start None v line h k e = cc
@@ -235,7 +235,7 @@ builtin_limited variant.Min args v line h e = choose_limited (replaces Least) ar
 builtin_limited variant.Max args v line h e = choose_limited (replaces Greatest) args v line h e
 builtin_limited variant.Sum [] v line h e = cc
 builtin_limited variant.Sum (a ∷ []) v line h e =
-    sum_limited (number (pos 0)) (Int (pos 0)) (items a) v line (limited_int (pos 0) refl) (items_limited a h.0) e
+    sum_limited (shape_of (Int (pos 0))) (Int (pos 0)) (items a) v line (limited_int (pos 0) refl) (items_limited a h.0) e
 builtin_limited variant.Sum (a ∷ start ∷ []) v line h e = sum_limited (shape_of start) start (items a) v line h.1.0 (items_limited a h.0) e
 builtin_limited variant.Sum (a ∷ start ∷ b ∷ args) v line h e = cc
 builtin_limited variant.Bool [] v line h e = same_value (Truth false) v e (limited_truth false)

@@ -1,5 +1,5 @@
 -- From bounds within the limits a range and all its numbers are within them.
-use Rattle.std.proofs.Common.{◌≡◌, ℕ, zero, suc, ◌+◌, ◌-◌, ◌*◌, ◌<◌, ◌≤◌, ◌^◌, nat_lt, min, ℤ, pos, negsuc, ◌+ℤ◌, ◌*ℤ◌, List, [], ◌∷◌, map, true, Option, Some, None, Result, Ok, refl, subst, arith}
+use Rattle.std.proofs.Common.{◌≡◌, ℕ, zero, suc, ◌-◌, ◌^◌, nat_lt, min, ℤ, pos, negsuc, ◌+ℤ◌, ◌*ℤ◌, List, [], ◌∷◌, map, true, Option, Some, None, Result, Ok, refl, subst, arith}
 use Rattle.std.specs.Prelude.{◌<ℤ◌, ◌≤ℤ◌}
 use Rattle.std.proofs.lemmas.Int.{ints}
 use Rattle.std.proofs.Math.IntN.{pos-*ℤ-negsuc}
@@ -8,8 +8,8 @@ use Rattle.pyd_value.specs.declared.fault.Fault.{Fault}
 use Rattle.pyd_value.specs.Shape.{Shape, number, text, tuple, nothing, number_in, number_of, shape_of}
 use Rattle.pyd_ops.specs.declared.ranges.Span.{Span}
 use Rattle.pyd_ops.specs.Integer.{is_within}
-use Rattle.pyd_ops.specs.Ranges.{span_of, range_of_numbers, range_of, number_at, count}
-use Rattle.pyd_ops.specs.Limited.{Limited, EachLimited, LimitedSpan}
+use Rattle.pyd_ops.specs.Ranges.{span_of, range_of_numbers, range_of, count}
+use Rattle.pyd_ops.specs.Limited.{EachLimited, LimitedSpan}
 use Rattle.pyd_ops.proofs.Limits.{below, below_when}
 use Rattle.pyd_ops.proofs.Counting.{Counted, same_span, up_when, down_when, cut_when}
 use Rattle.pyd_ops.proofs.Parts.{Inside, inside}

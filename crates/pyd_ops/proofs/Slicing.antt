@@ -1,10 +1,8 @@
 -- The items of a slice, and a text that is the middle of a cut in three.
-use Rattle.std.proofs.Common.{◌≡◌, ◌↔◌, ℕ, zero, suc, ◌+◌, ◌-◌, ◌<◌, ◌≤◌, min, ℤ, pos, negsuc, ◌+ℤ◌, List, [], ◌∷◌, length, take, drop, slice_get, nat_lt, Bool, true, false, cond, Option, Some, None, refl, sym, ap, ◌∙◌, arith, IsTrue, rules}
+use Rattle.std.proofs.Common.{◌≡◌, ℕ, zero, suc, ◌+◌, ◌-◌, ℤ, pos, negsuc, ◌+ℤ◌, List, [], ◌∷◌, length, take, drop, slice_get, nat_lt, Bool, true, false, cond, Option, Some, None, refl, sym, ap, ◌∙◌, arith}
 use Rattle.std.specs.Prelude.{◌<ℤ◌, ◌≤ℤ◌}
 use Rattle.std.proofs.lemmas.Int.{ints}
-use Rattle.pyd_value.specs.declared.value.Value.{Value}
-use Rattle.pyd_ops.specs.Indexing.{clamp, bound_position, items_between, slice_items}
-use Rattle.pyd_ops.specs.Comparing.{is_substring}
+use Rattle.pyd_ops.specs.Indexing.{clamp, bound_position, items_between}
 use Rattle.pyd_ops.specs.Laws.{SubstringIsAMiddle, IsBetween, SliceLaw}
 use Rattle.pyd_ops.proofs.Substrings.{substring_decides}
 

@@ -1,19 +1,19 @@
 -- What a sum of characters or of numbers gives.
-use Rattle.std.proofs.Common.{◌≡◌, ℕ, ◌≤◌, ℤ, pos, List, [], ◌∷◌, map, length, Bool, true, false, Option, Some, None, Result, Ok, Err, refl, sym, ap, ◌∙◌, arith}
-use Rattle.pyd_value.specs.declared.value.Value.{Value, Int, Text}
+use Rattle.std.proofs.Common.{◌≡◌, ℕ, ◌≤◌, ℤ, List, [], ◌∷◌, map, length, Bool, true, false, Some, Result, refl, sym, ap, ◌∙◌, arith}
+use Rattle.pyd_value.specs.declared.value.Value.{Value, Int}
 use Rattle.pyd_value.specs.declared.fault.Fault.{Fault}
 use Rattle.pyd_value.specs.declared.fault.Kind.TheVariants.{TypeError}
 use Rattle.pyd_value.specs.declared.operator.BinOp.TheVariants.{Add}
 use Rattle.pyd_value.specs.Shape.{Shape, number, text, tuple, nothing, shape_of, number_in, number_of}
 use Rattle.pyd_value.proofs.Constructs.{shape_of-int, shape_of-text}
 use Rattle.pyd_ops.specs.Answer.{raise}
-use Rattle.pyd_ops.specs.Operators.{binary, add, on_numbers}
+use Rattle.pyd_ops.specs.Operators.{binary, add}
 use Rattle.pyd_ops.specs.Sequence.{character}
-use Rattle.pyd_ops.specs.Calls.{and_then, sum_items, sum}
+use Rattle.pyd_ops.specs.Calls.{and_then, sum_items, sum_in, sum}
 
 -- nothing is added to a character but a text
 no_sum : (x : Shape Value) (start : Value) (c : ℕ) (vs : List Value) (line : ℕ) → shape_of start ≡ x
-    → sum x start (Some (character c ∷ vs)) line ≡ raise TypeError line
+    → sum_in x start (Some (character c ∷ vs)) line ≡ raise TypeError line
 no_sum x start c vs line e = by_shape x e
   where
     added : (x : Shape Value) → shape_of start ≡ x → binary Add start (character c) line ≡ add x (text (c ∷ [])) line
@@ -22,14 +22,14 @@ no_sum x start c vs line e = by_shape x e
     next : Value → Result Value Fault
     next v = sum_items v vs line
 
-    by_shape : (x : Shape Value) → shape_of start ≡ x → sum x start (Some (character c ∷ vs)) line ≡ raise TypeError line
+    by_shape : (x : Shape Value) → shape_of start ≡ x → sum_in x start (Some (character c ∷ vs)) line ≡ raise TypeError line
     by_shape (number n) e = ap (λ r. and_then r (λ v. sum_items v vs line)) (added (number n) e)
     by_shape (text s) e = refl
     by_shape (tuple xs) e = ap (λ r. and_then r (λ v. sum_items v vs line)) (added (tuple xs) e)
     by_shape nothing e = ap (λ r. and_then r (λ v. sum_items v vs line)) (added nothing e)
 
 pub no_sum_of_characters : (start : Value) (s : List ℕ) (line : ℕ) (b : Bool) → (s ≡ [] → b ≡ true) → b ≡ false
-    → sum (shape_of start) start (Some (map character s)) line ≡ raise TypeError line
+    → sum start (Some (map character s)) line ≡ raise TypeError line
 no_sum_of_characters start [] line b f e = absurd (let h = f refl in let k : ⊥ = cc in k)
 no_sum_of_characters start (c ∷ s) line b f e = no_sum (shape_of start) start c (map character s) line refl
 

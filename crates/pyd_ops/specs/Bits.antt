@@ -1,4 +1,4 @@
--- The bits of whole numbers in two's complement, without a width: -1 - n has the bits of n turned round.
+-- The bits of whole numbers in two's complement, without a width: -1 - n has those of n inverted.
 use Rattle.std.specs.Prelude.{ℕ, ◌-◌, ℤ, pos, negsuc, bit_and, bit_or, bit_xor}
 
 -- the bits that are set in m and not in n

@@ -7,7 +7,7 @@ use Rattle.pyd_value.specs.declared.fault.Kind.TheVariants.{TypeError, ValueErro
 use Rattle.pyd_value.specs.declared.operator.BinOp.TheVariants.{Add}
 use Rattle.pyd_value.specs.declared.operator.Builtin.{Builtin}
 use Rattle.pyd_value.specs.declared.operator.Builtin.TheVariants as variant
-use Rattle.pyd_value.specs.Shape.{Shape, number, text, shape_of, number_of}
+use Rattle.pyd_value.specs.Shape.{Shape, text, shape_of, number_of}
 use Rattle.pyd_value.specs.Truth.{is_true}
 use Rattle.pyd_ops.specs.declared.extremes.Extreme.{Extreme}
 use Rattle.pyd_ops.specs.declared.extremes.Extreme.TheVariants.{Least, Greatest}
@@ -35,7 +35,8 @@ branch None first second line = raise TypeError line
 -- each candidate in turn takes the place of the best so far where it passes the test
 abbrev pub choose_best : (Value → Value → Option Bool) → Value → List Value → ℕ → Result Value Fault
 choose_best test x [] line = Ok x
-choose_best test x (y ∷ ys) line = branch (test y x) (choose_best test y ys line) (choose_best test x ys line) line
+choose_best test x (y ∷ ys) line =
+    branch (test y x) (choose_best test y ys line) (choose_best test x ys line) line
 
 -- a candidate takes the place of the best so far only where it is less, or greater
 abbrev pub replaces : Extreme → Value → Value → Option Bool
@@ -65,10 +66,14 @@ sum_items total [] line = Ok total
 sum_items total (x ∷ xs) line = and_then (binary Add total x line) (λ v. sum_items v xs line)
 
 -- a sum begins with anything but a text
-abbrev pub sum : Shape Value → Value → Option (List Value) → ℕ → Result Value Fault
-sum (text s) start xs line = raise TypeError line
-sum shape start (Some xs) line = sum_items start xs line
-sum shape start None line = raise TypeError line
+abbrev pub sum_in : Shape Value → Value → Option (List Value) → ℕ → Result Value Fault
+sum_in (text s) start xs line = raise TypeError line
+sum_in shape start (Some xs) line = sum_items start xs line
+sum_in shape start None line = raise TypeError line
+
+-- the sum of the items, if there are any, from a start
+abbrev pub sum : Value → Option (List Value) → ℕ → Result Value Fault
+sum start xs line = sum_in (shape_of start) start xs line
 
 -- a builtin function of these arguments, but for those that make texts, print or range
 abbrev pub builtin : Builtin → List Value → ℕ → Result Value Fault
@@ -76,8 +81,8 @@ builtin variant.Len (a ∷ []) line = len (items a) line
 builtin variant.Abs (a ∷ []) line = absolute (number_of a) line
 builtin variant.Min args line = choose (replaces Least) args line
 builtin variant.Max args line = choose (replaces Greatest) args line
-builtin variant.Sum (a ∷ []) line = sum (number (pos 0)) (Int (pos 0)) (items a) line
-builtin variant.Sum (a ∷ start ∷ []) line = sum (shape_of start) start (items a) line
+builtin variant.Sum (a ∷ []) line = sum (Int (pos 0)) (items a) line
+builtin variant.Sum (a ∷ start ∷ []) line = sum start (items a) line
 builtin variant.Bool [] line = Ok (Truth false)
 builtin variant.Bool (a ∷ []) line = Ok (Truth (is_true a))
 builtin which args line = raise TypeError line

@@ -1,5 +1,5 @@
 -- Indexing and slicing (Python Language Reference, 6.3.2 and 6.3.3).
-use Rattle.std.specs.Prelude.{ℕ, suc, ◌-◌, min, nat_lt, ℤ, pos, negsuc, List, [], ◌∷◌, length, take, drop, slice_get, cond, Option, Some, None, Result, Ok}
+use Rattle.std.specs.Prelude.{ℕ, suc, ◌-◌, min, nat_lt, ℤ, pos, negsuc, List, length, take, drop, slice_get, cond, Option, Some, None, Result, Ok}
 use Rattle.pyd_value.specs.declared.value.Value.{Value, Text, Tuple}
 use Rattle.pyd_value.specs.declared.fault.Fault.{Fault}
 use Rattle.pyd_value.specs.declared.fault.Kind.TheVariants.{TypeError, IndexError}
@@ -53,7 +53,8 @@ items_between xs low high = take (high - low) (drop low xs)
 
 -- the items between two bounds
 abbrev pub slice_items : {A : Type 0} → List A → Option ℤ → Option ℤ → List A
-slice_items xs low high = items_between xs (bound_position low 0 (length xs)) (bound_position high (length xs) (length xs))
+slice_items xs low high =
+    items_between xs (bound_position low 0 (length xs)) (bound_position high (length xs) (length xs))
 
 -- a bound is a number, or is absent as is `None`; anything else is no bound
 abbrev pub bound_in : Shape Value → Option (Option ℤ)

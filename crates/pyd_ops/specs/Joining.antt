@@ -1,5 +1,5 @@
--- Joining and repeating texts and tuples (Python Language Reference, 6.7), within the limits on values.
-use Rattle.std.specs.Prelude.{ℕ, nat_le, List, Bool, cond, ◌&&◌, Result, Ok}
+-- Joining and repeating texts and tuples (Python Language Reference, 6.7), within the limits.
+use Rattle.std.specs.Prelude.{ℕ, ◌+◌, ◌-◌, ◌*◌, max, nat_le, nat_lt, List, Bool, cond, ◌&&◌, Result, Ok}
 use Rattle.pyd_value.specs.declared.value.Value.{Value, Text, Tuple}
 use Rattle.pyd_value.specs.declared.fault.Fault.{Fault}
 use Rattle.pyd_value.specs.declared.fault.Limit.TheVariants as bound
@@ -9,6 +9,15 @@ use Rattle.pyd_ops.specs.Answer.{exceed}
 -- a size of at most 1,048,576, and tuples that nest at most 100 deep
 abbrev pub fits : Value → Bool
 fits v = nat_le (size_of v) 1048576 && nat_le (nesting_of v) 100
+
+-- whether two tuples make one that fits, by their sizes and nestings
+abbrev pub fit_together : Value → Value → Bool
+fit_together a b =
+    nat_le (size_of a + size_of b) (1 + 1048576) && nat_le (max (nesting_of a) (nesting_of b)) 100
+
+-- whether a tuple fits n times over, where n isn't 0
+abbrev pub fits_repeated : Value → ℕ → Bool
+fits_repeated a n = nat_lt (n * (size_of a - 1)) 1048576 && nat_le (nesting_of a) 100
 
 -- the value if it fits, or the fault
 abbrev pub if_fits : Value → ℕ → Result Value Fault

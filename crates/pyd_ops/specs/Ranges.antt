@@ -21,7 +21,8 @@ count a b (negsuc s) = div_ceil (positive_part (a -ℤ b)) (suc s)
 -- the span, its count cut to 2^127 - 1, where the step isn't 0
 abbrev pub span_of : ℤ → ℤ → ℤ → ℕ → Result Span Fault
 span_of a b (pos zero) line = raise ValueError line
-span_of a b s line = Ok (record { from = a; step = s; count = pos (min (count a b s) (2 ^ 127 - 1)) })
+span_of a b s line =
+    Ok (record { from = a; step = s; count = pos (min (count a b s) (2 ^ 127 - 1)) })
 
 -- the bounds as numbers: an end, a beginning and an end, or these and a step
 abbrev pub range_of_numbers : List (Option ℤ) → ℕ → Result Span Fault

@@ -13,8 +13,8 @@ use crate::answer::truth_value;
 use pyd_value::{CmpOp, Outcome, Text, Value, equal};
 use std::cmp::Ordering;
 
-/// What a comparison gives: a truth value, or `TypeError` where the two have no order or there is no
-/// membership.
+/// What a comparison gives: a truth value, or `TypeError` where the two have no order or there is
+/// no membership.
 pub fn compare(op: CmpOp, a: &Value, b: &Value, line: u32) -> Outcome
     ensures { result ≡ outcome_of (spec.compare op a.now b.now line) }
 {

@@ -1,8 +1,9 @@
 //! `min` and `max` (Python Standard Library, "Built-in Functions").
-ghost use Rattle.std.specs.Prelude.{◌≡◌, max, min, map, Some};
+ghost use Rattle.std.specs.Prelude.{◌≡◌, max, min, Some};
 ghost use Rattle.std.specs.List.{reduce};
+ghost use Rattle.pyd_value.specs.Shape.{text};
 ghost use Rattle.pyd_ops.specs.Answer.{Answers};
-ghost use Rattle.pyd_ops.specs.Sequence.{character, items};
+ghost use Rattle.pyd_ops.specs.Sequence.{items, items_in};
 ghost use Rattle.pyd_ops.specs.Calls as spec;
 
 use crate::answer::raise;
@@ -44,17 +45,12 @@ fn choose_item(alloc: Global, which: Extreme, a: &Value, line: u32) -> Result<Ou
     }
 }
 
-fn choose_character(
-    alloc: Global,
-    which: Extreme,
-    text: &Text,
-    line: u32,
-) -> Result<Outcome, NoMemory>
-    ensures { Answers result (spec.choose_item (spec.replaces which) (Some (map character text.now)) line) }
+fn choose_character(alloc: Global, which: Extreme, s: &Text, line: u32) -> Result<Outcome, NoMemory>
+    ensures { Answers result (spec.choose_item (spec.replaces which) (items_in (text s.now)) line) }
 {
     let chosen = match which {
-        Extreme::Least => least(text),
-        Extreme::Greatest => greatest(text),
+        Extreme::Least => least(s),
+        Extreme::Greatest => greatest(s),
     };
     match chosen {
         Some(c) => Ok(Outcome::Ok(character(alloc, c)?)),
@@ -108,7 +104,8 @@ fn choose_best(
     Ok(Outcome::Ok(try_copy(alloc, best)?))
 }
 
-/// Whether a candidate is strictly less or greater than the best so far, where the two have an order.
+/// Whether a candidate is strictly less or greater than the best so far, where the two have an
+/// order.
 fn replaces(which: Extreme, candidate: &Value, best: &Value) -> Option<bool>
     ensures { result ≡ spec.replaces which candidate.now best.now }
 {

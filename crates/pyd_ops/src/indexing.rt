@@ -73,8 +73,8 @@ fn place(i: i128, len: usize) -> Option<usize>
 }
 
 /// The part of a text or tuple between two bounds, each a number, `None` or absent. A bound counts
-/// from the end where it is negative, and is cut to the beginning and the end. `TypeError` for other
-/// kinds.
+/// from the end where it is negative, and is cut to the beginning and the end. `TypeError` for
+/// other kinds.
 pub fn slice(alloc: Global, a: &Value, by: &Bounds, line: u32) -> Result<Outcome, NoMemory>
     ensures { Answers result (spec.slice a.now by.now line) }
 {

@@ -1,7 +1,6 @@
 //! Joining and repeating texts and tuples. What the limits refuse isn't built.
-ghost use Rattle.std.specs.Prelude.{◌≡◌, ◌+◌, ◌-◌, ◌*◌, ◌<◌, ◌≤◌, max, nat_le, nat_lt, ◌&&◌, ◌++◌, IfOk, OnOk, string_bytes};
+ghost use Rattle.std.specs.Prelude.{◌≡◌, ◌≤◌, ◌++◌, IfOk, OnOk, string_bytes};
 ghost use Rattle.std.specs.Str.{chars};
-ghost use Rattle.pyd_value.specs.Size.{size_of, nesting_of};
 ghost use Rattle.pyd_ops.specs.Answer.{Answers};
 ghost use Rattle.std.specs.List.{repeat};
 ghost use Rattle.pyd_ops.specs.Joining as spec;
@@ -69,7 +68,7 @@ fn repeat_str(alloc: Global, s: &str, n: u128) -> Result<String, NoMemory>
 
 /// Whether two tuples make one within the limits.
 pub(crate) fn fit_together(a: &Value, b: &Value) -> bool
-    ensures { result ≡ (nat_le (size_of a.now + size_of b.now) 1048577 && nat_le (max (nesting_of a.now) (nesting_of b.now)) 100) }
+    ensures { result ≡ spec.fit_together a.now b.now }
 {
     size(a).saturating_add(size(b)) <= LARGEST + 1 && nest(a).max(nest(b)) <= DEEPEST
 }
@@ -77,7 +76,7 @@ pub(crate) fn fit_together(a: &Value, b: &Value) -> bool
 /// Whether a tuple that isn't empty is within the limits so many times over.
 pub(crate) fn fits_repeated(a: &Value, n: u128) -> bool
     requires { 1 ≤ n }
-    ensures { result ≡ (nat_lt (n * (size_of a.now - 1)) 1048576 && nat_le (nesting_of a.now) 100) }
+    ensures { result ≡ spec.fits_repeated a.now n }
 {
     let members = size(a).saturating_sub(1) as u128;
     n.saturating_mul(members) < LARGEST as u128 && nest(a) <= DEEPEST

@@ -1,8 +1,8 @@
 //! The laws of operations, each the contract of a function that does nothing.
 ghost use Rattle.pyd_ops.specs.Laws as law;
 
-/// From operands within the limits on integers, size and nesting every operation gives values within
-/// them, and `range_of` a range whose numbers are all within 128 bits.
+/// From operands within the limits on integers, size and nesting every operation gives values
+/// within them, and `range_of` a range whose numbers are all within 128 bits.
 pub fn operations_keep_limits()
     ensures { law.OperationsKeepLimits }
 {}

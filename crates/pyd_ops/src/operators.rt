@@ -1,4 +1,5 @@
-//! The operators before one operand and between two (Python Language Reference, sections 6.5 to 6.9).
+//! The operators before one operand and between two (Python Language Reference, sections 6.5 to
+//! 6.9).
 ghost use Rattle.std.specs.Prelude.{◌≡◌, ◌↔◌, ◌⊎◌, [], IsTrue, Ok};
 ghost use Rattle.pyd_value.specs.declared.value.Value.{out-Value};
 ghost use Rattle.pyd_value.specs.Shape.{shape_of};

@@ -13,9 +13,9 @@ pub struct Span {
     pub count: i128,
 }
 
-/// The numbers of `range` with these arguments: an end, a beginning and an end, or these and a step.
-/// `TypeError` where they are fewer or more, or one isn't a number, else `ValueError` where the step
-/// is 0. A count above 2^127 - 1 is cut to it.
+/// The numbers of `range` with these arguments: an end, a beginning and an end, or these and a
+/// step. `TypeError` where they are fewer or more, or one isn't a number, else `ValueError` where
+/// the step is 0. A count above 2^127 - 1 is cut to it.
 pub fn range_of(args: &[Value], line: u32) -> Result<Span, Fault>
     ensures { result ≡ spec.range_of args.now line }
 {

@@ -20,8 +20,8 @@ pub fn items(alloc: Global, a: &Value) -> Result<Option<List<Value>>, NoMemory>
     }
 }
 
-/// Item number `t`, counted from 0, as a loop wants it turn by turn. `None` past the end, and for what
-/// is neither text nor tuple. Of a tuple or an ASCII text no item before it is walked.
+/// Item number `t`, counted from 0, as a loop wants it turn by turn. `None` past the end, and for
+/// what is neither text nor tuple. Of a tuple or an ASCII text no item before it is walked.
 pub fn item_at(alloc: Global, a: &Value, t: u64) -> Result<Option<Value>, NoMemory>
     ensures { IfOk result (λ item. item ≡ spec.item_at a.now t) }
 {

@@ -1,10 +1,10 @@
 //! `sum` (Python Standard Library, "Built-in Functions").
-ghost use Rattle.std.specs.Prelude.{◌≡◌, map, Some, Ok, Err, MatchResult};
+ghost use Rattle.std.specs.Prelude.{◌≡◌, Ok, Err, IfOk, IfErr};
 ghost use Rattle.pyd_value.specs.declared.value.Value.{Int};
 ghost use Rattle.pyd_value.specs.declared.operator.BinOp.TheVariants.{Add};
-ghost use Rattle.pyd_value.specs.Shape.{shape_of};
+ghost use Rattle.pyd_value.specs.Shape.{text};
 ghost use Rattle.pyd_ops.specs.Answer.{outcome_of, Answers};
-ghost use Rattle.pyd_ops.specs.Sequence.{character, items};
+ghost use Rattle.pyd_ops.specs.Sequence.{items, items_in};
 ghost use Rattle.pyd_ops.specs.Operators.{binary};
 ghost use Rattle.pyd_ops.specs.Calls as spec;
 
@@ -17,7 +17,7 @@ use std::alloc::Global;
 
 /// `+` of each item from the left, on a start that isn't a text.
 pub(crate) fn sum(alloc: Global, a: &Value, start: &Value, line: u32) -> Result<Outcome, NoMemory>
-    ensures { Answers result (spec.sum (shape_of start.now) start.now (items a.now) line) }
+    ensures { Answers result (spec.sum start.now (items a.now) line) }
 {
     match (a, start) {
         (_, Value::Text(_)) => Ok(raise(Kind::TypeError, line)),
@@ -28,12 +28,12 @@ pub(crate) fn sum(alloc: Global, a: &Value, start: &Value, line: u32) -> Result<
 }
 
 /// Only the empty text has a sum, since no start can be added to a character.
-fn sum_text(alloc: Global, text: &Text, start: &Value, line: u32) -> Result<Outcome, NoMemory>
-    ensures { Answers result (spec.sum (shape_of start.now) start.now (Some (map character text.now)) line) }
+fn sum_text(alloc: Global, s: &Text, start: &Value, line: u32) -> Result<Outcome, NoMemory>
+    ensures { Answers result (spec.sum start.now (items_in (text s.now)) line) }
 {
     match start {
         Value::Text(_) => Ok(raise(Kind::TypeError, line)),
-        _ if text.is_empty() => Ok(Outcome::Ok(try_copy(alloc, start)?)),
+        _ if s.is_empty() => Ok(Outcome::Ok(try_copy(alloc, start)?)),
         _ => Ok(raise(Kind::TypeError, line)),
     }
 }
@@ -62,7 +62,8 @@ fn sum_numbers(items: &[Value], start: i128, line: u32) -> Outcome
 }
 
 fn add_number(total: i128, item: &Value, line: u32) -> Result<i128, Fault>
-    ensures { MatchResult result (λ sum. binary Add (Int total) item.now line ≡ Ok (Int sum)) (λ fault. binary Add (Int total) item.now line ≡ Err fault) }
+    ensures ok { IfOk result (λ sum. binary Add (Int total) item.now line ≡ Ok (Int sum)) }
+    ensures err { IfErr result (λ fault. binary Add (Int total) item.now line ≡ Err fault) }
 {
     match number(item) {
         Some(n) => match total.checked_add(n) {
