@@ -1,7 +1,7 @@
 -- How a run of these words over this input concludes, and what it leaves.
 use Rattle.std.specs.Prelude.{◌≡◌, ◌⊎◌, ℕ, ◌<◌, ◌≤◌, List, [], ◌∷◌, ◌++◌, length, map, codes, Option, IfSome, String, string_bytes, decimal}
 use Rattle.std.specs.declared.alloc.Global.{Global}
-use Rattle.pyd_value.specs.declared.fault.Limit.{Limit as LimitName}
+use Rattle.pyd_value.specs.declared.fault.Limit.{Limit}
 use Rattle.pyd_value.specs.declared.fault.Limit.TheVariants as limit
 use Rattle.pyd_value.specs.declared.fault.End.{End}
 use Rattle.pyd_value.specs.declared.fault.End.TheVariants as ending
@@ -103,7 +103,7 @@ status_of conclusion.ReadFault = status.ReadFault
 status_of conclusion.SinkFault = status.SinkFault
 status_of conclusion.NoMemory = status.NoMemory
 
-abbrev pub limit_text : LimitName → List ℕ
+abbrev pub limit_text : Limit → List ℕ
 limit_text limit.Turn = codes "LIMIT TurnLimit"
 limit_text limit.Depth = codes "LIMIT DepthLimit"
 limit_text limit.Int = codes "LIMIT IntLimit"
