@@ -1,5 +1,5 @@
 -- A range counts exactly the numbers before its end, and all of them are within 128 bits.
-use Rattle.std.proofs.Common.{◌≡◌, ◌↔◌, ◌⊎◌, inl, inr, ℕ, zero, suc, ◌-◌, ◌*◌, ◌<◌, ◌≤◌, ◌^◌, min, ℤ, pos, negsuc, ◌+ℤ◌, ◌-ℤ◌, ◌*ℤ◌, Result, Ok, subst, arith}
+use Rattle.std.proofs.Common.{◌≡◌, ◌↔◌, ◌⊎◌, inl, inr, ℕ, zero, suc, ◌*◌, ◌<◌, ◌≤◌, min, ℤ, pos, negsuc, ◌+ℤ◌, ◌-ℤ◌, ◌*ℤ◌, Result, Ok, subst, arith}
 use Rattle.std.specs.Prelude.{◌<ℤ◌}
 use Rattle.std.specs.Int.{div_ceil}
 use Rattle.std.proofs.lemmas.Int.{ints}
@@ -7,6 +7,7 @@ use Rattle.std.proofs.lemmas.Nat.{mul-le}
 use Rattle.std.proofs.lemmas.Grind.{div_ceil_times}
 use Rattle.std.proofs.Math.IntN.{pos-*ℤ-negsuc}
 use Rattle.pyd_value.specs.declared.fault.Fault.{Fault}
+use Rattle.pyd_value.specs.Limits.{greatest_integer}
 use Rattle.pyd_ops.specs.declared.ranges.Span.{Span}
 use Rattle.pyd_ops.specs.Integer.{positive_part}
 use Rattle.pyd_ops.specs.Ranges.{count, span_of, number_at}
@@ -64,14 +65,14 @@ down_so a b s t h =
     let e = pos-*ℤ-negsuc t s in
     ceil_above t (positive_part (a -ℤ b)) s (above_part (t * suc s) (a -ℤ b) (omega (arith, ints)))
 
-pub cut_when : (t n : ℕ) → pos t <ℤ pos (min n (2 ^ 127 - 1)) → t < n
+pub cut_when : (t n : ℕ) → pos t <ℤ pos (min n greatest_integer) → t < n
 cut_when t n h = omega (arith, ints)
 
-cut_so : (t n : ℕ) → t < 2 ^ 127 - 1 → t < n → pos t <ℤ pos (min n (2 ^ 127 - 1))
+cut_so : (t n : ℕ) → t < greatest_integer → t < n → pos t <ℤ pos (min n greatest_integer)
 cut_so t n h k = omega (arith, ints)
 
 abbrev pub Counted : ℤ → ℤ → ℤ → Span
-Counted a b s = record { from = a; step = s; count = pos (min (count a b s) (2 ^ 127 - 1)) }
+Counted a b s = record { from = a; step = s; count = pos (min (count a b s) greatest_integer) }
 
 pub same_span : (x y : Span) → ◌≡◌ {A = Result Span Fault} (Ok x) (Ok y) → x ≡ y
 same_span x y e = cc

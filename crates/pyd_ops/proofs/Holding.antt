@@ -3,11 +3,12 @@ use Rattle.std.proofs.Common.{◌≡◌, ℕ, zero, suc, ◌+◌, ◌-◌, ◌*�
 use Rattle.std.specs.Str.{chars, IsUtf8}
 use Rattle.std.proofs.lemmas.Str.{encodes-append, chars-append, chars-nil}
 use Rattle.pyd_value.specs.declared.value.Value.{Value, Text, Tuple}
-use Rattle.pyd_value.specs.declared.fault.Limit.TheVariants as bound
+use Rattle.pyd_value.specs.declared.fault.Limit.TheVariants as limit
 use Rattle.pyd_value.specs.Size.{size_of, nesting_of, total, greatest}
 use Rattle.pyd_value.proofs.Constructs.{shape_of-tuple, size_of-text, size_of-tuple, nesting_of-text, nesting_of-tuple}
 use Rattle.pyd_value.specs.declared.fault.Fault.{Fault}
 use Rattle.pyd_value.specs.Shape.{tuple, shape_of}
+use Rattle.pyd_value.specs.Limits.{largest_size, deepest_nesting}
 use Rattle.pyd_ops.specs.Answer.{exceed, outcome_of}
 use Rattle.pyd_ops.specs.Operators.{add, repeat_value}
 use Rattle.pyd_ops.specs.Joining.{fits, text_if_fits, tuple_if_fits, text_value}
@@ -22,23 +23,23 @@ not_at_most n m h = grind arith
 
 -- texts
 
-text_fits : (s : List ℕ) → fits (Text s) ≡ nat_le (1 + length (encode_utf8_all s)) 1048576
+text_fits : (s : List ℕ) → fits (Text s) ≡ nat_le (1 + length (encode_utf8_all s)) largest_size
 text_fits s =
-    ap (λ n. nat_le n 1048576 && nat_le (nesting_of (Text s)) 100) (size_of-text s)
-    ∙ ap (λ n. nat_le (1 + length (encode_utf8_all s)) 1048576 && nat_le n 100) (nesting_of-text s)
-    ∙ and_true (nat_le (1 + length (encode_utf8_all s)) 1048576)
+    ap (λ n. nat_le n largest_size && nat_le (nesting_of (Text s)) deepest_nesting) (size_of-text s)
+    ∙ ap (λ n. nat_le (1 + length (encode_utf8_all s)) largest_size && nat_le n deepest_nesting) (nesting_of-text s)
+    ∙ and_true (nat_le (1 + length (encode_utf8_all s)) largest_size)
   where
     and_true : (b : Bool) → b && true ≡ b
     and_true true = refl
     and_true false = refl
 
-pub text_within : (s : List ℕ) (line : ℕ) → length (encode_utf8_all s) < 1048576 → text_if_fits s line ≡ Ok (Text s)
+pub text_within : (s : List ℕ) (line : ℕ) → length (encode_utf8_all s) < largest_size → text_if_fits s line ≡ Ok (Text s)
 text_within s line h =
-    ap (λ b. cond b (Ok (Text s)) (exceed bound.Size line)) (text_fits s ∙ at_most (1 + length (encode_utf8_all s)) 1048576 (omega arith))
+    ap (λ b. cond b (Ok (Text s)) (exceed limit.Size line)) (text_fits s ∙ at_most (1 + length (encode_utf8_all s)) largest_size (omega arith))
 
-pub text_past : (s : List ℕ) (line : ℕ) → 1048576 ≤ length (encode_utf8_all s) → text_if_fits s line ≡ exceed bound.Size line
+pub text_past : (s : List ℕ) (line : ℕ) → largest_size ≤ length (encode_utf8_all s) → text_if_fits s line ≡ exceed limit.Size line
 text_past s line h =
-    ap (λ b. cond b (Ok (Text s)) (exceed bound.Size line)) (text_fits s ∙ not_at_most (1 + length (encode_utf8_all s)) 1048576 (omega arith))
+    ap (λ b. cond b (Ok (Text s)) (exceed limit.Size line)) (text_fits s ∙ not_at_most (1 + length (encode_utf8_all s)) largest_size (omega arith))
 
 pub length_joined : (s t bs cs : List ℕ) → bs ≡ encode_utf8_all s → cs ≡ encode_utf8_all t → length (encode_utf8_all (s ++ t)) ≡ length bs + length cs
 length_joined s t bs cs e f =
@@ -94,16 +95,16 @@ same_tests : (a b c d e f g h : ℕ) → (a ≤ b → e ≤ f) × (e ≤ f → a
 same_tests a b c d e f g h p q r = grind arith
 
 pub tuples_joined : (a b : Value) (xs ys : List Value) → a ≡ Tuple xs → b ≡ Tuple ys
-    → fits (Tuple (xs ++ ys)) ≡ nat_le (size_of a + size_of b) 1048577 && nat_le (max (nesting_of a) (nesting_of b)) 100
+    → fits (Tuple (xs ++ ys)) ≡ nat_le (size_of a + size_of b) (1 + largest_size) && nat_le (max (nesting_of a) (nesting_of b)) deepest_nesting
 tuples_joined a b xs ys e f =
-    same_tests (size_of (Tuple (xs ++ ys))) 1048576 (nesting_of (Tuple (xs ++ ys))) 100 (size_of a + size_of b) 1048577 (max (nesting_of a) (nesting_of b)) 100
+    same_tests (size_of (Tuple (xs ++ ys))) largest_size (nesting_of (Tuple (xs ++ ys))) deepest_nesting (size_of a + size_of b) (1 + largest_size) (max (nesting_of a) (nesting_of b)) deepest_nesting
     (let s : size_of (Tuple (xs ++ ys)) + 1 ≡ size_of a + size_of b = omega (arith, size_of-tuple (xs ++ ys), total_joined xs ys, size_by_kind a xs e, size_by_kind b ys f) in
     (λ h. omega arith, λ h. omega arith))
     (omega (arith, nesting_of-tuple (xs ++ ys), greatest_joined xs ys, nesting_by_kind a xs e, nesting_by_kind b ys f))
     refl
 
 pub tuple_repeated : (a : Value) (xs : List Value) (n : ℕ) → a ≡ Tuple xs → 1 ≤ n
-    → fits (Tuple (repeat n xs)) ≡ nat_lt (n * (size_of a - 1)) 1048576 && nat_le (nesting_of a) 100
+    → fits (Tuple (repeat n xs)) ≡ nat_lt (n * (size_of a - 1)) largest_size && nat_le (nesting_of a) deepest_nesting
 tuple_repeated a xs zero e h = absurd (none h)
   where
     none : 1 ≤ 0 → ⊥
@@ -111,9 +112,9 @@ tuple_repeated a xs zero e h = absurd (none h)
 tuple_repeated a xs (suc n) e h =
     let s : size_of (Tuple (repeat (suc n) xs)) ≡ 1 + suc n * (size_of a - 1) = omega_size (size_of a) (total (map size_of xs)) n (size_by_kind a xs e) (size_of-tuple (repeat (suc n) xs) ∙ ap (λ k. 1 + k) (total_repeated (suc n) xs)) in
     let d : nesting_of (Tuple (repeat (suc n) xs)) ≡ nesting_of a = nesting_of-tuple (repeat (suc n) xs) ∙ ap (λ k. 1 + k) (greatest_repeated n xs) ∙ sym (nesting_by_kind a xs e) in
-    ap (λ k. nat_le k 1048576 && nat_le (nesting_of (Tuple (repeat (suc n) xs))) 100) s
-    ∙ ap (λ k. nat_le (1 + suc n * (size_of a - 1)) 1048576 && nat_le k 100) d
-    ∙ ap (λ b. b && nat_le (nesting_of a) 100) (below_next (suc n * (size_of a - 1)) 1048576)
+    ap (λ k. nat_le k largest_size && nat_le (nesting_of (Tuple (repeat (suc n) xs))) deepest_nesting) s
+    ∙ ap (λ k. nat_le (1 + suc n * (size_of a - 1)) largest_size && nat_le k deepest_nesting) d
+    ∙ ap (λ b. b && nat_le (nesting_of a) deepest_nesting) (below_next (suc n * (size_of a - 1)) largest_size)
   where
     omega_size : (k t n : ℕ) {s : ℕ} → k ≡ 1 + t → s ≡ 1 + suc n * t → s ≡ 1 + suc n * (k - 1)
     omega_size k t n e f = let g : k - 1 ≡ t = omega arith in f ∙ ap (λ x. 1 + suc n * x) (sym g)
@@ -121,13 +122,13 @@ tuple_repeated a xs (suc n) e h =
     below_next : (k m : ℕ) → nat_le (1 + k) m ≡ nat_lt k m
     below_next k m = grind arith
 
-pub tuple_tested : (xs : List Value) (line : ℕ) (b : Bool) → fits (Tuple xs) ≡ b → tuple_if_fits xs line ≡ cond b (Ok (Tuple xs)) (exceed bound.Size line)
-tuple_tested xs line b e = ap (λ t. cond t (Ok (Tuple xs)) (exceed bound.Size line)) e
+pub tuple_tested : (xs : List Value) (line : ℕ) (b : Bool) → fits (Tuple xs) ≡ b → tuple_if_fits xs line ≡ cond b (Ok (Tuple xs)) (exceed limit.Size line)
+tuple_tested xs line b e = ap (λ t. cond t (Ok (Tuple xs)) (exceed limit.Size line)) e
 
 pub nothing_fits : (line : ℕ) → tuple_if_fits [] line ≡ Ok (Tuple [])
 nothing_fits line =
     tuple_tested [] line true
-    (ap (λ n. nat_le n 1048576 && nat_le (nesting_of (Tuple [])) 100) (size_of-tuple []) ∙ ap (λ n. nat_le n 100) (nesting_of-tuple []))
+    (ap (λ n. nat_le n largest_size && nat_le (nesting_of (Tuple [])) deepest_nesting) (size_of-tuple []) ∙ ap (λ n. nat_le n deepest_nesting) (nesting_of-tuple []))
 
 pub nothing_repeated : (xs : List Value) (n line : ℕ) → (n ≡ 0) ⊎ (xs ≡ []) → tuple_if_fits (repeat n xs) line ≡ Ok (Tuple [])
 nothing_repeated xs n line (inl e) = ap (λ k. tuple_if_fits (repeat k xs) line) e ∙ nothing_fits line

@@ -7,7 +7,7 @@ use Rattle.pyd_value.specs.declared.value.Value.{Value, Int, Bool as Truth, Text
 use Rattle.pyd_value.specs.declared.value.Value.TheOpen.{Value-F}
 use Rattle.pyd_value.specs.declared.value.Value.TheFolds.{map-Value, fold_out-Value}
 use Rattle.pyd_value.specs.declared.fault.Fault.{Fault}
-use Rattle.pyd_value.specs.declared.fault.Limit.TheVariants as bound
+use Rattle.pyd_value.specs.declared.fault.Limit.TheVariants as limit
 use Rattle.pyd_value.specs.declared.operator.BinOp.{BinOp}
 use Rattle.pyd_value.specs.declared.operator.BinOp.TheVariants.{Add, Sub, Mul, Div, Mod, Pow, Shl, Shr, And, Or, Xor}
 use Rattle.pyd_value.specs.declared.operator.UnOp.{UnOp}
@@ -15,6 +15,7 @@ use Rattle.pyd_value.specs.declared.operator.UnOp.TheVariants.{Neg, Pos, Not}
 use Rattle.pyd_value.specs.Shape.{Shape, number, text, tuple, nothing, shape_in, shape_of, number_of}
 use Rattle.pyd_value.specs.Size.{size_of, nesting_of}
 use Rattle.pyd_value.proofs.Constructs.{size_of-int, size_of-truth, size_of-text, nesting_of-int, nesting_of-truth, nesting_of-text}
+use Rattle.pyd_value.specs.Limits.{largest_size, deepest_nesting}
 use Rattle.pyd_ops.specs.Answer.{exceed}
 use Rattle.pyd_ops.specs.Integer.{is_within, checked, integer, positive_part}
 use Rattle.pyd_ops.specs.Arithmetic.{floor_div, floor_rem, arithmetic, divide, remainder, power, shift_left, shift_right}
@@ -81,9 +82,9 @@ members a h = level_members (out-Value a) (sym (fold_out-Value Bool integers_ste
 
 -- values of each kind
 
-small : (v : Value) (s n : ℕ) → size_of v ≡ s → nesting_of v ≡ n → s ≤ 1048576 → n ≤ 100 → fits v ≡ true
+small : (v : Value) (s n : ℕ) → size_of v ≡ s → nesting_of v ≡ n → s ≤ largest_size → n ≤ deepest_nesting → fits v ≡ true
 small v s n e f h k =
-    pair (nat_le (size_of v) 1048576) (nat_le (nesting_of v) 100) (at_most (size_of v) 1048576 (omega arith)) (at_most (nesting_of v) 100 (omega arith))
+    pair (nat_le (size_of v) largest_size) (nat_le (nesting_of v) deepest_nesting) (at_most (size_of v) largest_size (omega arith)) (at_most (nesting_of v) deepest_nesting (omega arith))
 
 pub limited_int : (n : ℤ) → is_within n ≡ true → Limited (Int n)
 limited_int n e =
@@ -93,7 +94,7 @@ pub limited_truth : (b : Bool) → Limited (Truth b)
 limited_truth b =
     record { integers = integers-truth b; size = small (Truth b) 1 0 (size_of-truth b) (nesting_of-truth b) (omega arith) (omega arith) }
 
-pub limited_text : (s : List ℕ) → length (encode_utf8_all s) < 1048576 → Limited (Text s)
+pub limited_text : (s : List ℕ) → length (encode_utf8_all s) < largest_size → Limited (Text s)
 limited_text s h =
     record { integers = integers-text s; size = small (Text s) (1 + length (encode_utf8_all s)) 0 (size_of-text s) (nesting_of-text s) (omega arith) (omega arith) }
 
@@ -109,7 +110,7 @@ whole_within z v line false f e = cc
 pub integer_limited : (z : ℤ) (v : Value) (line : ℕ) → integer z line ≡ Ok v → Limited v
 integer_limited z v line e = whole_within z v line (is_within z) refl e
 
-fits_limited : (u v : Value) (line : ℕ) (b : Bool) → fits u ≡ b → integers_within u ≡ true → cond b (Ok u) (exceed bound.Size line) ≡ Ok v → Limited v
+fits_limited : (u v : Value) (line : ℕ) (b : Bool) → fits u ≡ b → integers_within u ≡ true → cond b (Ok u) (exceed limit.Size line) ≡ Ok v → Limited v
 fits_limited u v line true f i e = same_value u v e (record { integers = i; size = f })
 fits_limited u v line false f i e = cc
 

@@ -1,5 +1,6 @@
 pub mod Substrings
 pub mod Limits
+pub mod Outcomes
 pub mod Division
 pub mod TwosComplement
 pub mod Powers

@@ -1,7 +1,8 @@
 -- What fits 128 bits is what is within the limits of integers.
-use Rattle.std.proofs.Common.{◌≡◌, ℕ, ℤ, pos, negsuc, ◌<◌, ◌^◌, nat_lt, Option, Some, None, cond, true, false, refl, sym, ap, ◌∙◌, arith, FitsSigned, SomeIff, ◌≤◌, Bool, to_z, of_z}
+use Rattle.std.proofs.Common.{◌≡◌, ℕ, ℤ, pos, negsuc, ◌<◌, nat_lt, Option, Some, None, cond, true, false, refl, sym, ap, ◌∙◌, arith, FitsSigned, SomeIff, ◌≤◌, Bool, to_z, of_z}
 use Rattle.std.proofs.lemmas.Int.{to_z-of_z}
 use Rattle.std.specs.Int.{w128}
+use Rattle.pyd_value.specs.Limits.{integer_bound}
 use Rattle.pyd_ops.specs.Integer.{is_within, within}
 
 pub below : (n m : ℕ) → n < m → nat_lt n m ≡ true
@@ -14,12 +15,12 @@ pub below_when : (n m : ℕ) → nat_lt n m ≡ true → n < m
 below_when n m h = grind arith
 
 pub fits_within : (z : ℤ) → FitsSigned w128 z → is_within z ≡ true
-fits_within (pos n) h = below n (2 ^ 127) h.sfits
-fits_within (negsuc n) h = below n (2 ^ 127) h.sfits
+fits_within (pos n) h = below n integer_bound h.sfits
+fits_within (negsuc n) h = below n integer_bound h.sfits
 
 pub within_fits : (z : ℤ) → is_within z ≡ true → FitsSigned w128 z
-within_fits (pos n) h = record { sfits = below_when n (2 ^ 127) h }
-within_fits (negsuc n) h = record { sfits = below_when n (2 ^ 127) h }
+within_fits (pos n) h = record { sfits = below_when n integer_bound h }
+within_fits (negsuc n) h = record { sfits = below_when n integer_bound h }
 
 pub some_within : (z : ℤ) → FitsSigned w128 z → within z ≡ Some z
 some_within z h = ap (λ b. cond b (Some z) None) (fits_within z h)

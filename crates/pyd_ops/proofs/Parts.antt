@@ -14,6 +14,7 @@ use Rattle.pyd_value.specs.Shape.{Shape, number, text, tuple, nothing, shape_in,
 use Rattle.pyd_value.specs.Size.{size_of, nesting_of, total, greatest, size_step, nesting_step}
 use Rattle.pyd_value.specs.Truth.{is_true}
 use Rattle.pyd_value.proofs.Constructs.{size_of-tuple, nesting_of-tuple}
+use Rattle.pyd_value.specs.Limits.{largest_size, deepest_nesting}
 use Rattle.pyd_ops.specs.declared.extremes.Extreme.TheVariants.{Least, Greatest}
 use Rattle.pyd_ops.specs.Operators.{binary}
 use Rattle.pyd_ops.specs.Indexing.{place, at_place, item, item_or_error, index_in, bound_position, items_between, slice_items, slice_in}
@@ -30,18 +31,18 @@ when_at_most n m h = grind arith
 -- members within the limits, together
 pub record Bounded (xs : List Value) : Type 0 where
   pub integers : list_all integers_within xs ≡ true
-  pub size : total (map size_of xs) < 1048576
-  pub depth : greatest (map nesting_of xs) < 100
+  pub size : total (map size_of xs) < largest_size
+  pub depth : greatest (map nesting_of xs) < deepest_nesting
 
 -- what a shape of a value within the limits holds
 abbrev pub Inside : Shape Value → Type 0
 Inside (number n) = is_within n ≡ true
-Inside (text s) = length (encode_utf8_all s) < 1048576
+Inside (text s) = length (encode_utf8_all s) < largest_size
 Inside (tuple xs) = Bounded xs
 Inside nothing = Unit
 
 level_inside : (l : Value-F Value) → integers_step (map-Value Value Bool integers_within l) ≡ true
-    → size_step (map-Value Value ℕ size_of l) ≤ 1048576 → nesting_step (map-Value Value ℕ nesting_of l) ≤ 100 → Inside (shape_in l)
+    → size_step (map-Value Value ℕ size_of l) ≤ largest_size → nesting_step (map-Value Value ℕ nesting_of l) ≤ deepest_nesting → Inside (shape_in l)
 level_inside (Value-F.Int n) e h k = e
 level_inside (Value-F.Bool true) e h k = refl
 level_inside (Value-F.Bool false) e h k = refl
@@ -51,18 +52,18 @@ level_inside Value-F.None e h k = tt
 
 pub inside : (a : Value) → Limited a → Inside (shape_of a)
 inside a h =
-    let t = both (nat_le (size_of a) 1048576) (nat_le (nesting_of a) 100) h.size in
+    let t = both (nat_le (size_of a) largest_size) (nat_le (nesting_of a) deepest_nesting) h.size in
     level_inside (out-Value a) (sym (fold_out-Value Bool integers_step a) ∙ h.integers)
-    (subst (λ n. n ≤ 1048576) (fold_out-Value ℕ size_step a) (when_at_most (size_of a) 1048576 t.0))
-    (subst (λ n. n ≤ 100) (fold_out-Value ℕ nesting_step a) (when_at_most (nesting_of a) 100 t.1))
+    (subst (λ n. n ≤ largest_size) (fold_out-Value ℕ size_step a) (when_at_most (size_of a) largest_size t.0))
+    (subst (λ n. n ≤ deepest_nesting) (fold_out-Value ℕ nesting_step a) (when_at_most (nesting_of a) deepest_nesting t.1))
 
 limited_tuple : (xs : List Value) → Bounded xs → Limited (Tuple xs)
 limited_tuple xs b =
     record {
       integers = integers-tuple xs ∙ b.integers;
-      size = pair (nat_le (size_of (Tuple xs)) 1048576) (nat_le (nesting_of (Tuple xs)) 100)
-          (at_most (size_of (Tuple xs)) 1048576 (omega (arith, size_of-tuple xs, b.size)))
-          (at_most (nesting_of (Tuple xs)) 100 (omega (arith, nesting_of-tuple xs, b.depth)));
+      size = pair (nat_le (size_of (Tuple xs)) largest_size) (nat_le (nesting_of (Tuple xs)) deepest_nesting)
+          (at_most (size_of (Tuple xs)) largest_size (omega (arith, size_of-tuple xs, b.size)))
+          (at_most (nesting_of (Tuple xs)) deepest_nesting (omega (arith, nesting_of-tuple xs, b.depth)));
     }
 
 first_of : (x : Value) (xs : List Value) → Bounded (x ∷ xs) → Limited x
@@ -70,8 +71,8 @@ first_of x xs b =
     let h = both (integers_within x) (list_all integers_within xs) b.integers in
     record {
       integers = h.0;
-      size = pair (nat_le (size_of x) 1048576) (nat_le (nesting_of x) 100)
-          (at_most (size_of x) 1048576 (omega (arith, b.size))) (at_most (nesting_of x) 100 (omega (arith, b.depth)));
+      size = pair (nat_le (size_of x) largest_size) (nat_le (nesting_of x) deepest_nesting)
+          (at_most (size_of x) largest_size (omega (arith, b.size))) (at_most (nesting_of x) deepest_nesting (omega (arith, b.depth)));
     }
 
 rest_of : (x : Value) (xs : List Value) → Bounded (x ∷ xs) → Bounded xs
@@ -117,7 +118,7 @@ front_text n s =
     sym (length-append (encode_utf8_all (take n s)) (encode_utf8_all (drop n s)))
     ∙ ap length (sym (encodes-append (take n s) (drop n s))) ∙ ap (λ t. length (encode_utf8_all t)) (take-append-drop n s)
 
-between_text : (s : List ℕ) (low high : ℕ) → length (encode_utf8_all s) < 1048576 → length (encode_utf8_all (items_between s low high)) < 1048576
+between_text : (s : List ℕ) (low high : ℕ) → length (encode_utf8_all s) < largest_size → length (encode_utf8_all (items_between s low high)) < largest_size
 between_text s low high h = omega (arith, front_text low s, front_text (high - low) (drop low s))
 
 split_integers : (xs ys : List Value) → list_all integers_within (xs ++ ys) ≡ true → (list_all integers_within xs ≡ true) × (list_all integers_within ys ≡ true)
@@ -188,21 +189,21 @@ branch_limited (Some true) p q v line f g e = f e
 branch_limited (Some false) p q v line f g e = g e
 branch_limited None p q v line f g e = cc
 
-choose_best_limited : (beats : Value → Value → Option Bool) (x : Value) (ys : List Value) (v : Value) (line : ℕ) → Limited x → EachLimited ys → choose_best beats x ys line ≡ Ok v → Limited v
-choose_best_limited beats x [] v line h k e = same_value x v e h
-choose_best_limited beats x (y ∷ ys) v line h k e =
-    branch_limited (beats y x) (choose_best beats y ys line) (choose_best beats x ys line) v line
-    (choose_best_limited beats y ys v line k.0 k.1) (choose_best_limited beats x ys v line h k.1) e
+choose_best_limited : (test : Value → Value → Option Bool) (x : Value) (ys : List Value) (v : Value) (line : ℕ) → Limited x → EachLimited ys → choose_best test x ys line ≡ Ok v → Limited v
+choose_best_limited test x [] v line h k e = same_value x v e h
+choose_best_limited test x (y ∷ ys) v line h k e =
+    branch_limited (test y x) (choose_best test y ys line) (choose_best test x ys line) v line
+    (choose_best_limited test y ys v line k.0 k.1) (choose_best_limited test x ys v line h k.1) e
 
-choose_item_limited : (beats : Value → Value → Option Bool) (o : Option (List Value)) (v : Value) (line : ℕ) → Items o → choose_item beats o line ≡ Ok v → Limited v
-choose_item_limited beats (Some (x ∷ xs)) v line h e = choose_best_limited beats x xs v line h.0 h.1 e
-choose_item_limited beats (Some []) v line h e = cc
-choose_item_limited beats None v line h e = cc
+choose_item_limited : (test : Value → Value → Option Bool) (o : Option (List Value)) (v : Value) (line : ℕ) → Items o → choose_item test o line ≡ Ok v → Limited v
+choose_item_limited test (Some (x ∷ xs)) v line h e = choose_best_limited test x xs v line h.0 h.1 e
+choose_item_limited test (Some []) v line h e = cc
+choose_item_limited test None v line h e = cc
 
-choose_limited : (beats : Value → Value → Option Bool) (args : List Value) (v : Value) (line : ℕ) → EachLimited args → choose beats args line ≡ Ok v → Limited v
-choose_limited beats [] v line h e = cc
-choose_limited beats (a ∷ []) v line h e = choose_item_limited beats (items a) v line (items_limited a h.0) e
-choose_limited beats (a ∷ b ∷ args) v line h e = choose_best_limited beats a (b ∷ args) v line h.0 h.1 e
+choose_limited : (test : Value → Value → Option Bool) (args : List Value) (v : Value) (line : ℕ) → EachLimited args → choose test args line ≡ Ok v → Limited v
+choose_limited test [] v line h e = cc
+choose_limited test (a ∷ []) v line h e = choose_item_limited test (items a) v line (items_limited a h.0) e
+choose_limited test (a ∷ b ∷ args) v line h e = choose_best_limited test a (b ∷ args) v line h.0 h.1 e
 
 step_limited : (r : Result Value Fault) (next : Value → Result Value Fault) (v : Value) → ((u : Value) → Gives r u → Limited u)
     → ((u : Value) → Limited u → Gives (next u) v → Limited v) → and_then r next ≡ Ok v → Limited v

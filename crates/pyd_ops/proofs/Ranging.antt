@@ -1,11 +1,12 @@
 -- From bounds within the limits a range and all its numbers are within them.
-use Rattle.std.proofs.Common.{◌≡◌, ℕ, zero, suc, ◌-◌, ◌^◌, nat_lt, min, ℤ, pos, negsuc, ◌+ℤ◌, ◌*ℤ◌, List, [], ◌∷◌, map, true, Option, Some, None, Result, Ok, refl, subst, arith}
+use Rattle.std.proofs.Common.{◌≡◌, ℕ, zero, suc, nat_lt, min, ℤ, pos, negsuc, ◌+ℤ◌, ◌*ℤ◌, List, [], ◌∷◌, map, true, Option, Some, None, Result, Ok, refl, subst, arith}
 use Rattle.std.specs.Prelude.{◌<ℤ◌, ◌≤ℤ◌}
 use Rattle.std.proofs.lemmas.Int.{ints}
 use Rattle.std.proofs.Math.IntN.{pos-*ℤ-negsuc}
 use Rattle.pyd_value.specs.declared.value.Value.{Value}
 use Rattle.pyd_value.specs.declared.fault.Fault.{Fault}
 use Rattle.pyd_value.specs.Shape.{Shape, number, text, tuple, nothing, number_in, number_of, shape_of}
+use Rattle.pyd_value.specs.Limits.{integer_bound, greatest_integer}
 use Rattle.pyd_ops.specs.declared.ranges.Span.{Span}
 use Rattle.pyd_ops.specs.Integer.{is_within}
 use Rattle.pyd_ops.specs.Ranges.{span_of, range_of_numbers, range_of, count}
@@ -15,15 +16,15 @@ use Rattle.pyd_ops.proofs.Counting.{Counted, same_span, up_when, down_when, cut_
 use Rattle.pyd_ops.proofs.Parts.{Inside, inside}
 
 -- a number between two that are within
-below_high : (n : ℕ) (high : ℤ) → is_within high ≡ true → pos n ≤ℤ high → nat_lt n (2 ^ 127) ≡ true
-below_high n (pos m) e h = let k = below_when m (2 ^ 127) e in below n (2 ^ 127) (omega (arith, ints))
+below_high : (n : ℕ) (high : ℤ) → is_within high ≡ true → pos n ≤ℤ high → nat_lt n integer_bound ≡ true
+below_high n (pos m) e h = let k = below_when m integer_bound e in below n integer_bound (omega (arith, ints))
 below_high n (negsuc m) e h = absurd (none n m h)
   where
     none : (n m : ℕ) → pos n ≤ℤ negsuc m → ⊥
     none n m h = omega (arith, ints)
 
-above_low : (n : ℕ) (low : ℤ) → is_within low ≡ true → low ≤ℤ negsuc n → nat_lt n (2 ^ 127) ≡ true
-above_low n (negsuc m) e h = let k = below_when m (2 ^ 127) e in below n (2 ^ 127) (omega (arith, ints))
+above_low : (n : ℕ) (low : ℤ) → is_within low ≡ true → low ≤ℤ negsuc n → nat_lt n integer_bound ≡ true
+above_low n (negsuc m) e h = let k = below_when m integer_bound e in below n integer_bound (omega (arith, ints))
 above_low n (pos m) e h = absurd (none n m h)
   where
     none : (n m : ℕ) → pos m ≤ℤ negsuc n → ⊥
@@ -33,8 +34,8 @@ within_between : (low x high : ℤ) → is_within low ≡ true → is_within hig
 within_between low (pos n) high e f h k = below_high n high f k
 within_between low (negsuc n) high e f h k = above_low n low e h
 
-cut_within : (n : ℕ) → nat_lt (min n (2 ^ 127 - 1)) (2 ^ 127) ≡ true
-cut_within n = below (min n (2 ^ 127 - 1)) (2 ^ 127) (omega arith)
+cut_within : (n : ℕ) → nat_lt (min n greatest_integer) integer_bound ≡ true
+cut_within n = below (min n greatest_integer) integer_bound (omega arith)
 
 up_from : (a : ℤ) (s t : ℕ) → a ≤ℤ (a +ℤ (pos t *ℤ pos (suc s)))
 up_from a s t = omega (arith, ints)

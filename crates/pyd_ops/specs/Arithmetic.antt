@@ -4,7 +4,7 @@ use Rattle.std.specs.Int.{div_ceil, int_rem_euclid, int_pow}
 use Rattle.pyd_value.specs.declared.value.Value.{Value}
 use Rattle.pyd_value.specs.declared.fault.Fault.{Fault}
 use Rattle.pyd_value.specs.declared.fault.Kind.TheVariants.{ValueError, ZeroDivisionError}
-use Rattle.pyd_value.specs.declared.fault.Limit.TheVariants as bound
+use Rattle.pyd_value.specs.declared.fault.Limit.TheVariants as limit
 use Rattle.pyd_value.specs.declared.operator.BinOp.{BinOp}
 use Rattle.pyd_value.specs.declared.operator.BinOp.TheVariants.{Add, Sub, Mul, Div, Mod, Pow, Shl, Shr, And, Or, Xor}
 use Rattle.pyd_ops.specs.Answer.{raise, exceed}
@@ -37,7 +37,7 @@ remainder m n line = integer (floor_rem m n) line
 abbrev pub power : ℤ → ℤ → ℕ → Result Value Fault
 power m (pos n) line = integer (int_pow m n) line
 power (pos zero) (negsuc n) line = raise ZeroDivisionError line
-power m (negsuc n) line = exceed bound.Outside line
+power m (negsuc n) line = exceed limit.Outside line
 
 -- `m << n`
 abbrev pub shift_left : ℤ → ℤ → ℕ → Result Value Fault

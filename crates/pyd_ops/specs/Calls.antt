@@ -44,7 +44,8 @@ replaces Least = order_is is_lt
 replaces Greatest = order_is is_gt
 
 -- the best of all candidates, if there are any
-abbrev pub choose_item : (Value → Value → Option Bool) → Option (List Value) → ℕ → Result Value Fault
+abbrev pub choose_item : (Value → Value → Option Bool) → Option (List Value) → ℕ
+    → Result Value Fault
 choose_item test (Some (x ∷ xs)) line = choose_best test x xs line
 choose_item test (Some []) line = raise ValueError line
 choose_item test None line = raise TypeError line

@@ -19,7 +19,7 @@ abbrev pub truth_value : Option Bool → ℕ → Result Value Fault
 truth_value (Some b) line = Ok (Truth b)
 truth_value Option.None line = raise TypeError line
 
--- a test of how a stands to b, where the two have an order
+-- a test of how a compares with b, where the two have an order
 abbrev pub order_is : (Ordering → Bool) → Value → Value → Option Bool
 order_is test a b = ordered (shape_of a) (option_map test (comparison_of a b))
 
@@ -29,12 +29,12 @@ is_prefix [] t = true
 is_prefix (c ∷ s) [] = false
 is_prefix (c ∷ s) (d ∷ t) = nat_eq c d && is_prefix s t
 
--- whether a text stands within another, at its beginning or later
+-- whether a text is part of another, at its beginning or later
 abbrev pub is_substring : List ℕ → List ℕ → Bool
 is_substring s [] = is_prefix s []
 is_substring s (d ∷ t) = is_prefix s (d ∷ t) || is_substring s t
 
--- whether a member equals a, or a text stands within the other
+-- whether a member equals a, or a text is a substring of the other
 abbrev pub membership : Value → Shape Value → Shape Value → Option Bool
 membership a x (tuple members) = Some (list_any (is_equal a) members)
 membership a (text s) (text t) = Some (is_substring s t)

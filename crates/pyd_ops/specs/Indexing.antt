@@ -54,9 +54,9 @@ items_between xs low high = take (high - low) (drop low xs)
 -- the items between two bounds
 abbrev pub slice_items : {A : Type 0} → List A → Option ℤ → Option ℤ → List A
 slice_items xs low high =
-    items_between xs (bound_position low 0 (length xs)) (bound_position high (length xs) (length xs))
+    let n = length xs in items_between xs (bound_position low 0 n) (bound_position high n n)
 
--- a bound is a number, or is absent as is `None`; anything else is no bound
+-- a bound is a number or `None`, which is as good as absent; anything else is no bound
 abbrev pub bound_in : Shape Value → Option (Option ℤ)
 bound_in (number n) = Some (Some n)
 bound_in nothing = Some None

@@ -2,26 +2,29 @@
 use Rattle.std.specs.Prelude.{ℕ, ◌+◌, ◌-◌, ◌*◌, max, nat_le, nat_lt, List, Bool, cond, ◌&&◌, Result, Ok}
 use Rattle.pyd_value.specs.declared.value.Value.{Value, Text, Tuple}
 use Rattle.pyd_value.specs.declared.fault.Fault.{Fault}
-use Rattle.pyd_value.specs.declared.fault.Limit.TheVariants as bound
+use Rattle.pyd_value.specs.declared.fault.Limit.TheVariants as limit
 use Rattle.pyd_value.specs.Size.{size_of, nesting_of}
+use Rattle.pyd_value.specs.Limits.{largest_size, deepest_nesting}
 use Rattle.pyd_ops.specs.Answer.{exceed}
 
--- a size of at most 1,048,576, and tuples that nest at most 100 deep
+-- a value within the limits on size and nesting
 abbrev pub fits : Value → Bool
-fits v = nat_le (size_of v) 1048576 && nat_le (nesting_of v) 100
+fits v = nat_le (size_of v) largest_size && nat_le (nesting_of v) deepest_nesting
 
 -- whether two tuples make one that fits, by their sizes and nestings
 abbrev pub fit_together : Value → Value → Bool
 fit_together a b =
-    nat_le (size_of a + size_of b) (1 + 1048576) && nat_le (max (nesting_of a) (nesting_of b)) 100
+    nat_le (size_of a + size_of b) (1 + largest_size)
+    && nat_le (max (nesting_of a) (nesting_of b)) deepest_nesting
 
 -- whether a tuple fits n times over, where n isn't 0
 abbrev pub fits_repeated : Value → ℕ → Bool
-fits_repeated a n = nat_lt (n * (size_of a - 1)) 1048576 && nat_le (nesting_of a) 100
+fits_repeated a n =
+    nat_lt (n * (size_of a - 1)) largest_size && nat_le (nesting_of a) deepest_nesting
 
 -- the value if it fits, or the fault
 abbrev pub if_fits : Value → ℕ → Result Value Fault
-if_fits v line = cond (fits v) (Ok v) (exceed bound.Size line)
+if_fits v line = cond (fits v) (Ok v) (exceed limit.Size line)
 
 -- a text if it fits, or the fault
 abbrev pub text_if_fits : List ℕ → ℕ → Result Value Fault

@@ -1,11 +1,12 @@
 -- Laws of operations, above their formulas.
-use Rattle.std.specs.Prelude.{◌≡◌, ◌≢◌, ◌↔◌, ℕ, ◌+◌, ◌-◌, ◌≤◌, ◌<◌, ◌^◌, ℤ, pos, negsuc, ◌+ℤ◌, ◌*ℤ◌, ◌<ℤ◌, ◌≤ℤ◌, List, length, slice_get, nat_lt, cond, Option, None, Ok, IsTrue}
+use Rattle.std.specs.Prelude.{◌≡◌, ◌≢◌, ◌↔◌, ℕ, ◌+◌, ◌≤◌, ◌<◌, ℤ, pos, negsuc, ◌+ℤ◌, ◌*ℤ◌, ◌<ℤ◌, ◌≤ℤ◌, List, length, slice_get, nat_lt, cond, Option, None, Ok, IsTrue}
 use Rattle.std.specs.Str.Iter.{HasSubslice}
 use Rattle.pyd_value.specs.declared.value.Value.{Value}
 use Rattle.pyd_value.specs.declared.operator.BinOp.{BinOp}
 use Rattle.pyd_value.specs.declared.operator.UnOp.{UnOp}
 use Rattle.pyd_value.specs.declared.operator.CmpOp.{CmpOp}
 use Rattle.pyd_value.specs.declared.operator.Builtin.{Builtin}
+use Rattle.pyd_value.specs.Limits.{greatest_integer}
 use Rattle.pyd_ops.specs.declared.indexing.Bounds.{Bounds}
 use Rattle.pyd_ops.specs.declared.ranges.Span.{Span}
 use Rattle.pyd_ops.specs.Arithmetic.{floor_div, floor_rem}
@@ -40,7 +41,7 @@ IsBefore (negsuc step) number end = end <ℤ number
 abbrev pub RangeCountsToItsEnd : Type 0
 RangeCountsToItsEnd =
     (from end step : ℤ) (span : Span) (t line : ℕ)
-    → span_of from end step line ≡ Ok span → t < 2 ^ 127 - 1
+    → span_of from end step line ≡ Ok span → t < greatest_integer
     → (pos t <ℤ span.count) ↔ IsBefore step (number_at span t) end
 
 -- quotient and remainder go together, and the remainder lies from 0 to below the divisor
@@ -64,7 +65,7 @@ abbrev pub IsSliceOf : {A : Type 0} → List A → List A → Option ℤ → Opt
 IsSliceOf part whole low high =
     let n = length whole in IsBetween part whole (bound_position low 0 n) (bound_position high n n)
 
--- which items a slice has, and where a bound stands among n items
+-- which items a slice has, and the position of a bound among n items
 pub record SliceLaw : Type 0 where
   pub characters : (s : List ℕ) (low high : Option ℤ)
       → IsSliceOf (slice_items s low high) s low high

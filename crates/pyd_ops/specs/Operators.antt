@@ -5,7 +5,7 @@ use Rattle.pyd_value.specs.declared.value.Value.{Value, out-Value, Bool as Truth
 use Rattle.pyd_value.specs.declared.value.Value.TheOpen.{Value-F}
 use Rattle.pyd_value.specs.declared.fault.Fault.{Fault}
 use Rattle.pyd_value.specs.declared.fault.Kind.TheVariants.{TypeError}
-use Rattle.pyd_value.specs.declared.fault.Limit.TheVariants as bound
+use Rattle.pyd_value.specs.declared.fault.Limit.TheVariants as limit
 use Rattle.pyd_value.specs.declared.operator.BinOp.{BinOp}
 use Rattle.pyd_value.specs.declared.operator.BinOp.TheVariants.{Add, Mul, Mod, And, Or, Xor}
 use Rattle.pyd_value.specs.declared.operator.UnOp.{UnOp}
@@ -55,7 +55,7 @@ multiply a b line = raise TypeError line
 
 -- `a % b`: of a text it would be a format, which the profile doesn't have
 abbrev pub modulo : Shape Value → Shape Value → ℕ → Result Value Fault
-modulo (text s) b line = exceed bound.Outside line
+modulo (text s) b line = exceed limit.Outside line
 modulo a b line = on_numbers Mod a b line
 
 -- `a & b`, `a | b` and `a ^ b`: of two truth values a truth value

@@ -30,7 +30,7 @@ pub fn compare(op: CmpOp, a: &Value, b: &Value, line: u32) -> Outcome
     }
 }
 
-/// How `a` stands to `b` where the two have an order: `None` has none.
+/// How `a` compares with `b` where the two have an order: `None` has none.
 pub(crate) fn order(a: &Value, b: &Value) -> Option<Ordering>
     ensures { result ≡ ordered (shape_of a.now) (comparison_of a.now b.now) }
 {

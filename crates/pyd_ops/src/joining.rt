@@ -6,21 +6,18 @@ ghost use Rattle.std.specs.List.{repeat};
 ghost use Rattle.pyd_ops.specs.Joining as spec;
 
 use crate::answer::exceed;
-use pyd_value::{Limit, List, NoMemory, Outcome, Text, Value, nest, size, try_copy};
+use pyd_value::{
+    DEEPEST_NESTING, LARGEST_SIZE, Limit, List, NoMemory, Outcome, Text, Value, nest, size,
+    try_copy,
+};
 use std::alloc::Global;
-
-/// The greatest size of a value.
-const LARGEST: u64 = 1_048_576;
-
-/// The deepest nesting of a tuple.
-const DEEPEST: u32 = 100;
 
 /// One text and then the other, or `SizeLimit`.
 pub(crate) fn join_texts(alloc: Global, s: &Text, t: &Text, line: u32) -> Result<Outcome, NoMemory>
     ensures { Answers result (spec.text_if_fits (s.now ++ t.now) line) }
 {
     let (s, t) = (s.as_str(), t.as_str());
-    if s.len().saturating_add(t.len()) as u64 >= LARGEST {
+    if s.len().saturating_add(t.len()) as u64 >= LARGEST_SIZE {
         return Ok(exceed(Limit::Size, line));
     }
     let joined = join_strs(alloc, s, t)?;
@@ -49,7 +46,7 @@ pub(crate) fn repeat_text(alloc: Global, s: &Text, n: u128, line: u32) -> Result
     if s.is_empty() {
         return text_value(alloc, String::new(alloc));
     }
-    if n.saturating_mul(s.len() as u128) >= LARGEST as u128 {
+    if n.saturating_mul(s.len() as u128) >= LARGEST_SIZE as u128 {
         return Ok(exceed(Limit::Size, line));
     }
     let repeated = repeat_str(alloc, s, n)?;
@@ -70,7 +67,7 @@ fn repeat_str(alloc: Global, s: &str, n: u128) -> Result<String, NoMemory>
 pub(crate) fn fit_together(a: &Value, b: &Value) -> bool
     ensures { result ≡ spec.fit_together a.now b.now }
 {
-    size(a).saturating_add(size(b)) <= LARGEST + 1 && nest(a).max(nest(b)) <= DEEPEST
+    size(a).saturating_add(size(b)) <= LARGEST_SIZE + 1 && nest(a).max(nest(b)) <= DEEPEST_NESTING
 }
 
 /// Whether a tuple that isn't empty is within the limits so many times over.
@@ -79,7 +76,7 @@ pub(crate) fn fits_repeated(a: &Value, n: u128) -> bool
     ensures { result ≡ spec.fits_repeated a.now n }
 {
     let members = size(a).saturating_sub(1) as u128;
-    n.saturating_mul(members) < LARGEST as u128 && nest(a) <= DEEPEST
+    n.saturating_mul(members) < LARGEST_SIZE as u128 && nest(a) <= DEEPEST_NESTING
 }
 
 /// The members of one tuple and then those of the other.

@@ -1,5 +1,5 @@
-//! The operators and builtin functions of the profile over values (Python Language Reference, section
-//! 6, "Expressions", and the library's "Built-in Functions").
+//! The operators and builtin functions of the profile over values (Python Language Reference,
+//! section 6, "Expressions", and the library's "Built-in Functions").
 #![tactic(auto)]
 
 mod answer;

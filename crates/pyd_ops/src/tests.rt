@@ -1,5 +1,6 @@
 //! Operations compared with CPython's answers, and those that the profile narrows.
 
+mod calling;
 mod narrowed;
 mod reading;
 mod rows;

@@ -6,8 +6,8 @@ use Rattle.pyd_ops.specs.Joining.{text_value, text_if_fits}
 use Rattle.pyd_ops.proofs.Holding.{text_within, text_past, length_joined, chars_joined}
 use Rattle.pyd_ops.proofs.joining.join_texts.Goals as goal
 
-pub returns-then-saturating_add-ge-LARGEST : goal.returns-then-saturating_add-ge-LARGEST
-returns-then-saturating_add-ge-LARGEST c =
+pub returns-then-saturating_add-ge-LARGEST_SIZE : goal.returns-then-saturating_add-ge-LARGEST_SIZE
+returns-then-saturating_add-ge-LARGEST_SIZE c =
     let l = length_joined c.args.s.now c.args.t.now c.as_str-s.result.now c.as_str-t.result.now c.as_str-s.ensures.bytes c.as_str-t.ensures.bytes in
     c.exceed.ensures ∙ ap outcome_of (sym (text_past _ _ (omega (arith, l))))
 
