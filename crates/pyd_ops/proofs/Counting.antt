@@ -1,5 +1,5 @@
 -- A range counts exactly the numbers before its end, and all of them are within 128 bits.
-use Rattle.std.proofs.Common.{◌≡◌, ◌↔◌, ◌⊎◌, inl, inr, ℕ, zero, suc, ◌*◌, ◌<◌, ◌≤◌, min, ℤ, pos, negsuc, ◌+ℤ◌, ◌-ℤ◌, ◌*ℤ◌, Result, Ok, subst, arith}
+use Rattle.std.proofs.Common.{◌≡◌, ◌↔◌, ◌⊎◌, inl, inr, ℕ, zero, suc, ◌*◌, ◌<◌, ◌≤◌, min, ℤ, pos, negsuc, ◌+ℤ◌, ◌-ℤ◌, ◌*ℤ◌, Result, Ok, sym, ap, subst, arith}
 use Rattle.std.specs.Prelude.{◌<ℤ◌}
 use Rattle.std.specs.Int.{div_ceil}
 use Rattle.std.proofs.lemmas.Int.{ints}
@@ -11,7 +11,7 @@ use Rattle.pyd_value.specs.Limits.{greatest_integer}
 use Rattle.pyd_ops.specs.declared.ranges.Span.{Span}
 use Rattle.pyd_ops.specs.Integer.{positive_part}
 use Rattle.pyd_ops.specs.Ranges.{count, span_of, number_at}
-use Rattle.pyd_ops.specs.Laws.{IsBefore, RangeCountsToItsEnd}
+use Rattle.pyd_ops.specs.Laws.{IsBefore, RangeLaw}
 
 choice : (t n : ℕ) → (t < n) ⊎ (n ≤ t)
 choice t n = grind arith
@@ -77,14 +77,28 @@ Counted a b s = record { from = a; step = s; count = pos (min (count a b s) grea
 pub same_span : (x y : Span) → ◌≡◌ {A = Result Span Fault} (Ok x) (Ok y) → x ≡ y
 same_span x y e = cc
 
-pub range_counts_to_its_end : RangeCountsToItsEnd
-range_counts_to_its_end a b (pos zero) r t line e l = absurd (none e)
+counts_of : (a b s : ℤ) (r : Span) (t line : ℕ) → span_of a b s line ≡ Ok r → t < greatest_integer
+    → (pos t <ℤ r.count) ↔ IsBefore s (number_at r t) b
+counts_of a b (pos zero) r t line e l = absurd (none e)
   where
     none : span_of a b (pos zero) line ≡ Ok r → ⊥
     none e = cc
-range_counts_to_its_end a b (pos (suc s)) r t line e l =
+counts_of a b (pos (suc s)) r t line e l =
     subst (λ x. (pos t <ℤ x.count) ↔ IsBefore (pos (suc s)) (number_at x t) b) (same_span (Counted a b (pos (suc s))) r e)
     (λ h. up_when a b s t (cut_when t _ h), λ h. cut_so t _ l (up_so a b s t h))
-range_counts_to_its_end a b (negsuc s) r t line e l =
+counts_of a b (negsuc s) r t line e l =
     subst (λ x. (pos t <ℤ x.count) ↔ IsBefore (negsuc s) (number_at x t) b) (same_span (Counted a b (negsuc s)) r e)
     (λ h. down_when a b s t (cut_when t _ h), λ h. cut_so t _ l (down_so a b s t h))
+
+begins_of : (a b s : ℤ) (r : Span) (line : ℕ) → span_of a b s line ≡ Ok r → (r.from ≡ a) × (r.step ≡ s)
+begins_of a b (pos zero) r line e = absurd (none e)
+  where
+    none : span_of a b (pos zero) line ≡ Ok r → ⊥
+    none e = cc
+begins_of a b (pos (suc s)) r line e =
+    let k = sym (same_span (Counted a b (pos (suc s))) r e) in (ap (λ (x : Span). x.from) k, ap (λ (x : Span). x.step) k)
+begins_of a b (negsuc s) r line e =
+    let k = sym (same_span (Counted a b (negsuc s)) r e) in (ap (λ (x : Span). x.from) k, ap (λ (x : Span). x.step) k)
+
+pub range_law : RangeLaw
+range_law = record { begins = begins_of; counts = counts_of }

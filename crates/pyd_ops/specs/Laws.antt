@@ -37,12 +37,13 @@ abbrev pub IsBefore : ℤ → ℤ → ℤ → Type 0
 IsBefore (pos step) number end = number <ℤ end
 IsBefore (negsuc step) number end = end <ℤ number
 
--- a range counts exactly the numbers before its end, as far as a count reaches
-abbrev pub RangeCountsToItsEnd : Type 0
-RangeCountsToItsEnd =
-    (from end step : ℤ) (span : Span) (t line : ℕ)
-    → span_of from end step line ≡ Ok span → t < greatest_integer
-    → (pos t <ℤ span.count) ↔ IsBefore step (number_at span t) end
+-- a range has its bounds, and counts exactly the numbers before its end, as far as a count reaches
+pub record RangeLaw : Type 0 where
+  pub begins : (from end step : ℤ) (span : Span) (line : ℕ)
+      → span_of from end step line ≡ Ok span → (span.from ≡ from) × (span.step ≡ step)
+  pub counts : (from end step : ℤ) (span : Span) (t line : ℕ)
+      → span_of from end step line ≡ Ok span → t < greatest_integer
+      → (pos t <ℤ span.count) ↔ IsBefore step (number_at span t) end
 
 -- quotient and remainder go together, and the remainder lies from 0 to below the divisor
 pub record DivisionLaw : Type 0 where

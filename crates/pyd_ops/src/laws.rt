@@ -7,9 +7,10 @@ pub fn operations_keep_limits()
     ensures { law.OperationsKeepLimits }
 {}
 
-/// A range counts exactly the numbers that come before its end, as far as its count reaches.
+/// A range begins at its first bound, goes by its step, and counts exactly the numbers that come
+/// before its end, as far as its count reaches.
 pub fn range_counts_to_its_end()
-    ensures { law.RangeCountsToItsEnd }
+    ensures { law.RangeLaw }
 {}
 
 /// `a == b * (a // b) + a % b`, and `a % b` lies from 0 to `b`, which it never reaches.
