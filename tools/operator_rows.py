@@ -1,5 +1,5 @@
 #!/usr/bin/env python3
-"""Writes crates/pyd_ops/src/tests/{rows,operators,relations}.rt: operations, and what CPython answers.
+"""Writes crates/pyd_ops/src/tests/rows.rt: operations, and what CPython answers.
 
 Run by hand at the top of the repository: python3 tools/operator_rows.py
 Every operation is asked of every pair of operands. The answers are CPython's; those that the profile
@@ -82,81 +82,86 @@ def call(name, ask, args):
     return answer(summed if name == "Sum" else ask, *args)
 
 
+def item_at(items, t):
+    """Item number t of a text or tuple, counted from 0."""
+    if not isinstance(items, (str, tuple)) or t < 0:
+        raise IndexError
+    return items[t]
+
+
+def items(a):
+    """The characters of a text or the members of a tuple."""
+    if not isinstance(a, (str, tuple)):
+        raise TypeError
+    return tuple(a)
+
+
 for value in [None, False, True] + OPERANDS + BOUNDS + LISTS:
     place(value)
-operators = [(f"Binary(BinOp::{name})", [[binary(name, ask, a, b) for b in OPERANDS] for a in OPERANDS]) for name, ask in BINARY]
-operators += [(f"Call(Builtin::{name})", [[call(name, ask, (a, b)) for b in OPERANDS] for a in OPERANDS]) for name, ask in CALLS[2:5]]
-relations = [(f"Compare(CmpOp::{name})", [[answer(ask, a, b) for b in OPERANDS] for a in OPERANDS]) for name, ask in COMPARE]
-relations += [("Index", [[answer(operator.getitem, a, b) for b in OPERANDS] for a in OPERANDS])]
+PAIRS = [(a, b) for a in OPERANDS for b in OPERANDS]
+SINGLES = [(a,) for a in OPERANDS + LISTS]
 SLICED = ["hello", "b\u00e9\U00010000", (1, 2), (), 7]
-parts = [[answer(lambda s, x, y: s[x:y], s, x, y) for x in BOUNDS for y in BOUNDS] for s in SLICED]
-singles = [(f"Unary(UnOp::{name})", [answer(ask, a) for a in OPERANDS + LISTS]) for name, ask in UNARY]
-singles += [(f"Call(Builtin::{name})", [call(name, ask, (a,)) for a in OPERANDS + LISTS]) for name, ask in CALLS]
-for value in SLICED:
-    place(value)
+SLICES = [(s, x, y) for s in SLICED for x in BOUNDS for y in BOUNDS]
+ITEMS = [(a, t) for a in OPERANDS + LISTS for t in range(6)]
+asked = [(name, args, answer(ask, *args)) for name, ask in UNARY for args in SINGLES]
+asked += [(name, args, binary(name, ask, *args)) for name, ask in BINARY for args in PAIRS]
+asked += [(name, args, answer(ask, *args)) for name, ask in COMPARE for args in PAIRS]
+asked += [("Index", args, answer(operator.getitem, *args)) for args in PAIRS]
+asked += [("Slice", args, answer(lambda s, x, y: s[x:y], *args)) for args in SLICES]
+asked += [(name, args, call(name, ask, args)) for name, ask in CALLS for args in SINGLES]
+asked += [(name, args, call(name, ask, args)) for name, ask in CALLS[2:5] for args in PAIRS]
+asked += [("Items", args, answer(items, *args)) for args in SINGLES]
+asked += [("ItemAt", args, answer(item_at, *args)) for args in ITEMS]
+asked = [row for row in asked if row[2] != "-"]
+for _, args, _ in asked:
+    for value in args:
+        place(value)
 
-ints = [v for v in values if type(v) is int]
-texts = [v for v in values if type(v) is str]
 tuples = sorted((v for v in values if type(v) is tuple), key=lambda v: (str(v).count("("), values.index(v)))
-values = [None, False, True] + ints + texts + tuples
-reprs = [repr(v) for v in values]
+values = [v for v in values if type(v) is not tuple] + tuples
+places = {repr(v): at for at, v in enumerate(values)}
 
 
 def at(value):
-    return reprs.index(repr(value))
+    return str(places[repr(value)])
 
 
-def mark(answered):
-    return answered if isinstance(answered, Mark) else str(at(answered))
+def word(value):
+    """A value as a word: an integer, None, False or True, a text behind a quote, members' places behind a bracket."""
+    if isinstance(value, str):
+        return "'" + "".join(c if " " < c < "\x7f" else "\\u{%x}" % ord(c) for c in value)
+    if isinstance(value, tuple):
+        return "(" + ",".join(map(at, value))
+    return str(value)
 
 
-def literal(text):
-    return '"' + "".join(c if " " < c < "\x7f" else "\\u{%x}" % ord(c) for c in text) + '"'
+def entry(args, answered):
+    return ",".join(map(at, args)) + ":" + (answered if isinstance(answered, Mark) else at(answered))
 
 
-def mark(answered):
-    return answered if isinstance(answered, Mark) else str(at(answered))
+def lines():
+    """A line for an operation and each first operand."""
+    rows = {}
+    for name, args, answered in asked:
+        rows.setdefault((name, at(args[0]) if len(args) > 1 else ""), []).append(entry(args, answered))
+    return [" ".join([name] + entries) for (name, _), entries in rows.items()]
 
 
-def literal(text):
-    return '"' + "".join(c if " " < c < "\x7f" else "\\u{%x}" % ord(c) for c in text) + '"'
+with open("crates/pyd_ops/src/tests/rows.rt", "w") as file:
+    file.write(f"""//! Operations, and what CPython answers. Written by tools/operator_rows.py.
 
+/// Values, each of which has a place, counted from 0: an integer, None, False or True, a text behind a
+/// quote, or a tuple as the places of its members behind a bracket.
+pub(crate) const VALUES: &str = "\\
+{chr(10).join(map(word, values))}
+";
 
-def places(items):
-    return f"&{[at(item) for item in items]}"
+/// How many answers there are.
+pub(crate) const ASKED: usize = {len(asked)};
 
-
-def marks(rows):
-    return "&[\n        " + ",\n        ".join('"' + " ".join(map(mark, row)) + '"' for row in rows) + ",\n    ]"
-
-
-def table(name, kind, rows, note=None):
-    rows = list(rows)
-    head = f"\n// {note}" if note else ""
-    return head + f"\npub(crate) const {name}: [{kind}; {len(rows)}] = [\n" + "".join(f"    {row},\n" for row in rows) + "];\n"
-
-
-def write(name, title, uses, *tables):
-    with open(f"crates/pyd_ops/src/tests/{name}.rt", "w") as file:
-        file.write(f"//! {title} Written by tools/operator_rows.py.\n\n{uses}" + "".join(tables))
-
-
-by_operands = "A row for each first operand, with the answer for each second one."
-write("rows", "Values, and what CPython answers of one of them.",
-      "use super::Ask;\nuse pyd_value::{Builtin, UnOp};\n",
-      table("INTS", "i128", ints), table("TEXTS", "&str", map(literal, texts)),
-      table("TUPLES", "&[usize]", map(places, tuples),
-            "The places of the members of each tuple, in `None`, `False`, `True`, the integers, the texts, the tuples."),
-      table("OPERANDS", "usize", map(at, OPERANDS), "The places of the operands."),
-      table("LISTS", "usize", map(at, LISTS)),
-      table("BOUNDS", "usize", map(at, BOUNDS), "The places of the bounds of slices."),
-      table("SINGLES", "(Ask, &str)", [f'(Ask::{ask}, "{" ".join(map(mark, row))}")' for ask, row in singles],
-            "The answers for each operand and each list: the place of a value, or the letter of a fault."),
-      table("PARTS", "(usize, &[&str])",
-            [f"({at(s)}, {marks([row[i:i + len(BOUNDS)] for i in range(0, len(row), len(BOUNDS))])})" for s, row in zip(SLICED, parts)],
-            "Slices of a value: a row for each lower bound, with the answer for each upper one."))
-write("operators", "What CPython answers of operators and calls with two operands.",
-      "use super::Ask;\nuse pyd_value::{BinOp, Builtin};\n",
-      table("OPERATORS", "(Ask, &[&str])", [f"(Ask::{ask}, {marks(rows)})" for ask, rows in operators], by_operands))
-write("relations", "What CPython answers of comparisons and indexing.", "use super::Ask;\nuse pyd_value::CmpOp;\n",
-      table("RELATIONS", "(Ask, &[&str])", [f"(Ask::{ask}, {marks(rows)})" for ask, rows in relations], by_operands))
+/// An operation, and then the places of its operands with the place of its value or the letter of its
+/// fault, over and over.
+pub(crate) const ANSWERS: &str = "\\
+{chr(10).join(lines())}
+";
+""")

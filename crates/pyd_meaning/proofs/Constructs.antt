@@ -5,7 +5,7 @@ use Rattle.pyd_value.specs.declared.operator.BinOp.TheVariants.{Add}
 use Rattle.pyd_ops.specs.Integer.{integer}
 use Rattle.pyd_value.specs.Shape.{number, shape_of}
 use Rattle.pyd_value.proofs.Constructs.{shape_of-int}
-use Rattle.pyd_ops.specs.Operation.{added, operated}
+use Rattle.pyd_ops.specs.Operators.{add, binary}
 use Rattle.pyd_tree.specs.declared.expression.Expr.TheFolds.{fold_out-Expr}
 use Rattle.pyd_tree.specs.declared.statement.What.TheFolds as folds
 use Rattle.pyd_meaning.specs.Evaluation.{step}
@@ -41,11 +41,11 @@ action_of_expression s e names opened =
     ∙ rw opened refl
 
 -- the sum of two integers
-operated-integers : (a b : ℤ) (line : ℕ) → operated Add (Int a) (Int b) line ≡ integer (a +ℤ b) line
-operated-integers a b line =
-    ap (λ x. added x (shape_of (Int b)) line) (shape_of-int a) ∙ ap (λ x. added (number a) x line) (shape_of-int b)
+binary-integers : (a b : ℤ) (line : ℕ) → binary Add (Int a) (Int b) line ≡ integer (a +ℤ b) line
+binary-integers a b line =
+    ap (λ x. add x (shape_of (Int b)) line) (shape_of-int a) ∙ ap (λ x. add (number a) x line) (shape_of-int b)
 
 -- each `+` in turn
 pub chained_sum : SumLaw
 unfolding chained
-chained_sum a b m links at gives_b = rw (gives_b, step-then, gives-then, operated-integers) refl
+chained_sum a b m links at gives_b = rw (gives_b, step-then, gives-then, binary-integers) refl

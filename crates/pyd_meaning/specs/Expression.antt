@@ -10,7 +10,7 @@ use Rattle.pyd_value.specs.declared.operator.BinOp.{BinOp}
 use Rattle.pyd_tree.specs.declared.expression.Expr.{Expr, fold-Expr}
 use Rattle.pyd_tree.specs.declared.expression.Expr.TheOpen.{Expr-F, Suffix-F}
 use Rattle.pyd_meaning.specs.Evaluation.{Evaluation, settled, gives, faults, prints, step, ◌>>=◌}
-use Rattle.pyd_ops.specs.Operation.{operated}
+use Rattle.pyd_ops.specs.Operators.{binary}
 use Rattle.pyd_meaning.specs.Printing.{line_of}
 
 -- where an expression stands: the line of its statement or header
@@ -33,7 +33,7 @@ each (e ∷ es) at = e at >>= (λ v. each es at >>= (λ vs. gives (v ∷ vs)))
 -- operators of one level from the left, each on the value so far
 unfoldable pub chained : Value → List (BinOp × Meaning) → Place → Evaluation Value
 chained a [] at = gives a
-chained a (link ∷ links) at = link.1 at >>= (λ b. settled (operated link.0 a b at.line) >>= (λ c. chained c links at))
+chained a (link ∷ links) at = link.1 at >>= (λ b. settled (binary link.0 a b at.line) >>= (λ c. chained c links at))
 
 -- the line of a `print`, and then None
 abbrev pub printed : Result (List ℕ) Fault → Evaluation Value

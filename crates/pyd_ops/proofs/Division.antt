@@ -11,23 +11,23 @@ use Rattle.pyd_ops.specs.Arithmetic.{floor_div, floor_rem}
 use Rattle.pyd_ops.proofs.Limits.{holds}
 
 -- one more, where no new multiple is reached
-grow : (a d : ℕ) → a % d + 1 < d → (suc a / d ≡ a / d) × (suc a % d ≡ a % d + 1)
+pub grow : (a d : ℕ) → a % d + 1 < d → (suc a / d ≡ a / d) × (suc a % d ≡ a % d + 1)
 grow a d h =
     let e : suc a ≡ a / d * d + (a % d + 1) = omega (arith, div-add-mod' a d) in
     (ap (λ x. x / d) e ∙ div-mul-add (a / d) d (a % d + 1) h, ap (λ x. x % d) e ∙ mod-mul-add (a / d) d (a % d + 1) h)
 
 -- one more, where one is
-carry : (a d : ℕ) → 0 < d → a % d + 1 ≡ d → (suc a / d ≡ a / d + 1) × (suc a % d ≡ 0)
+pub carry : (a d : ℕ) → 0 < d → a % d + 1 ≡ d → (suc a / d ≡ a / d + 1) × (suc a % d ≡ 0)
 carry a d p h =
     let e : suc a ≡ (a / d + 1) * d + 0 = omega (arith, div-add-mod' a d) in
     (ap (λ x. x / d) e ∙ div-mul-add (a / d + 1) d 0 p, ap (λ x. x % d) e ∙ mod-mul-add (a / d + 1) d 0 p)
 
-nothing : (d : ℕ) → 0 < d → 0 % d ≡ 0
+pub nothing : (d : ℕ) → 0 < d → 0 % d ≡ 0
 nothing d p =
     let e : 0 ≡ 0 * d + 0 = omega arith in
     ap (λ x. x % d) e ∙ mod-mul-add 0 d 0 p
 
-either : (a n : ℕ) → (a % suc n + 1 < suc n) ⊎ (a % suc n + 1 ≡ suc n)
+pub either : (a n : ℕ) → (a % suc n + 1 < suc n) ⊎ (a % suc n + 1 ≡ suc n)
 either a n = by_order (a % suc n) n (mod_below a (suc n) (omega arith))
   where
     by_order : (r n : ℕ) → r < suc n → (r + 1 < suc n) ⊎ (r + 1 ≡ suc n)

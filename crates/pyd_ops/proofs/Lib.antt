@@ -1,5 +1,6 @@
 pub mod Substrings
 pub mod Limits
+pub mod Outcomes
 pub mod Division
 pub mod TwosComplement
 pub mod Powers
@@ -7,3 +8,10 @@ pub mod Repeats
 pub mod Holding
 pub mod Keeping
 pub mod Parts
+pub mod Characters
+pub mod Summing
+pub mod Counting
+pub mod Dividing
+pub mod Slicing
+pub mod Ranging
+pub mod Keeps

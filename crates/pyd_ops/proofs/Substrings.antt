@@ -5,25 +5,25 @@ use Rattle.std.specs.Str.{chars, IsUtf8, IsCharBoundary}
 use Rattle.std.specs.Str.Iter.{HasSubslice}
 use Rattle.std.proofs.lemmas.List.{append-nil, take_at, get_or_at}
 use Rattle.std.proofs.lemmas.Str.{encodes-append, encodes-chars, chars-append, chars-nil, IsUtf8-take, IsCharBoundary-start}
-use Rattle.pyd_ops.specs.Comparing.{begins, stands_within}
+use Rattle.pyd_ops.specs.Comparing.{is_prefix, is_substring}
 
 both : (p q : Bool) → p && q ≡ true → (p ≡ true) × (q ≡ true)
 both true true e = (refl, refl)
 both true false e = cc
 both false q e = cc
 
-begins_when : (s t : List ℕ) → begins s t ≡ true → (r : List ℕ) × (t ≡ s ++ r)
-begins_when [] t e = (t, refl)
-begins_when (c ∷ s) [] e = cc
-begins_when (c ∷ s) (d ∷ t) e =
-    let h = both (nat_eq c d) (begins s t) e in
-    let k = begins_when s t h.1 in
+prefix_when : (s t : List ℕ) → is_prefix s t ≡ true → (r : List ℕ) × (t ≡ s ++ r)
+prefix_when [] t e = (t, refl)
+prefix_when (c ∷ s) [] e = cc
+prefix_when (c ∷ s) (d ∷ t) e =
+    let h = both (nat_eq c d) (is_prefix s t) e in
+    let k = prefix_when s t h.1 in
     let f : c ≡ d = eqb-true c d h.0 in
     (k.0, ap (λ x. x ∷ t) (sym f) ∙ ap (λ x. c ∷ x) k.1)
 
-begins_so : (s r : List ℕ) → begins s (s ++ r) ≡ true
-begins_so [] r = refl
-begins_so (c ∷ s) r = ap (λ b. b && begins s (s ++ r)) (eq-eqb c c refl) ∙ begins_so s r
+prefix_so : (s r : List ℕ) → is_prefix s (s ++ r) ≡ true
+prefix_so [] r = refl
+prefix_so (c ∷ s) r = ap (λ b. b && is_prefix s (s ++ r)) (eq-eqb c c refl) ∙ prefix_so s r
 
 abbrev Found : Bool → Bool → List ℕ → List ℕ → Type 0
 Found p q s t = (p ≡ true → HasSubslice t s) → (q ≡ true → HasSubslice t s) → p || q ≡ true → HasSubslice t s
@@ -32,32 +32,32 @@ found : (p q : Bool) (s t : List ℕ) → Found p q s t
 found true q s t f g e = f refl
 found false q s t f g e = g e
 
-at_once : (s t : List ℕ) → begins s t ≡ true → HasSubslice t s
-at_once s t e = let h = begins_when s t e in ([], h.0, h.1)
+at_once : (s t : List ℕ) → is_prefix s t ≡ true → HasSubslice t s
+at_once s t e = let h = prefix_when s t e in ([], h.0, h.1)
 
 later : (s t : List ℕ) (d : ℕ) → HasSubslice t s → HasSubslice (d ∷ t) s
 later s t d h = (d ∷ h.0, h.1, ap (λ x. d ∷ x) h.2)
 
-within_when : (s t : List ℕ) → stands_within s t ≡ true → HasSubslice t s
-within_when s [] e = at_once s [] e
-within_when s (d ∷ t) e =
-    found (begins s (d ∷ t)) (stands_within s t) s (d ∷ t) (at_once s (d ∷ t)) (λ k. later s t d (within_when s t k)) e
+substring_when : (s t : List ℕ) → is_substring s t ≡ true → HasSubslice t s
+substring_when s [] e = at_once s [] e
+substring_when s (d ∷ t) e =
+    found (is_prefix s (d ∷ t)) (is_substring s t) s (d ∷ t) (at_once s (d ∷ t)) (λ k. later s t d (substring_when s t k)) e
 
 or_true : (p : Bool) → p || true ≡ true
 or_true true = refl
 or_true false = refl
 
-within_front : (s t : List ℕ) → begins s t ≡ true → stands_within s t ≡ true
-within_front s [] e = e
-within_front s (d ∷ t) e = ap (λ b. b || stands_within s t) e
+substring_front : (s t : List ℕ) → is_prefix s t ≡ true → is_substring s t ≡ true
+substring_front s [] e = e
+substring_front s (d ∷ t) e = ap (λ b. b || is_substring s t) e
 
-within_so : (a s b : List ℕ) → stands_within s (a ++ (s ++ b)) ≡ true
-within_so [] s b = within_front s (s ++ b) (begins_so s b)
-within_so (d ∷ a) s b =
-    ap (λ q. begins s (d ∷ (a ++ (s ++ b))) || q) (within_so a s b) ∙ or_true (begins s (d ∷ (a ++ (s ++ b))))
+substring_so : (a s b : List ℕ) → is_substring s (a ++ (s ++ b)) ≡ true
+substring_so [] s b = substring_front s (s ++ b) (prefix_so s b)
+substring_so (d ∷ a) s b =
+    ap (λ q. is_prefix s (d ∷ (a ++ (s ++ b))) || q) (substring_so a s b) ∙ or_true (is_prefix s (d ∷ (a ++ (s ++ b))))
 
-stands_decides : (s t : List ℕ) → Decides (stands_within s t) (HasSubslice t s)
-stands_decides s t = (within_when s t, λ h. ap (stands_within s) h.2 ∙ within_so h.0 s h.1)
+pub substring_decides : (s t : List ℕ) → Decides (is_substring s t) (HasSubslice t s)
+substring_decides s t = (substring_when s t, λ h. ap (is_substring s) h.2 ∙ substring_so h.0 s h.1)
 
 -- the bytes of a text that aren't none begin a character
 boundary : (bs a b x : List ℕ) → bs ≡ a ++ (x ++ b) → IsUtf8 x → 0 < length x → IsCharBoundary bs (length a)
@@ -89,9 +89,9 @@ bytes_of_chars bs x u v h = (
 )
 
 -- what looks for bytes looks for a text
-pub stands_by_bytes : (r : Bool) (bs x : List ℕ) → IsUtf8 bs → IsUtf8 x → Decides r (HasSubslice bs x) → r ≡ stands_within (chars x) (chars bs)
-stands_by_bytes r bs x u v d =
-    one_answer r (stands_within (chars x) (chars bs)) d (
-      λ e. bytes_of_chars bs x u v (within_when (chars x) (chars bs) e),
-      λ h. (stands_decides (chars x) (chars bs)).1 (chars_of_bytes bs x u v h),
+pub substring_by_bytes : (r : Bool) (bs x : List ℕ) → IsUtf8 bs → IsUtf8 x → Decides r (HasSubslice bs x) → r ≡ is_substring (chars x) (chars bs)
+substring_by_bytes r bs x u v d =
+    one_answer r (is_substring (chars x) (chars bs)) d (
+      λ e. bytes_of_chars bs x u v (substring_when (chars x) (chars bs) e),
+      λ h. (substring_decides (chars x) (chars bs)).1 (chars_of_bytes bs x u v h),
     )

@@ -5,10 +5,10 @@ use Rattle.std.specs.Int.{w128, bit_at, bit_not}
 use Rattle.std.proofs.lemmas.Int.{to_z-of_z, to_z_pos}
 use Rattle.std.proofs.lemmas.Nat.{and_le_l, and_comm, or_comm, xor_comm, and-not, or_lt, xor_lt}
 use Rattle.std.proofs.lemmas.Nat.Bits.{bit_at_and, bit_at_or, bit_at_xor, bit_at_not, bit_at-lt, same_from_bits_below}
-use Rattle.pyd_ops.specs.Bits.{bits_less, bits_and, bits_or, bits_xor}
+use Rattle.pyd_ops.specs.Bits.{bits_and_not, bits_and, bits_or, bits_xor}
 
 -- what is set in m and not in n, by the bits of n turned round
-less_is : (m n : ℕ) → m < 2 ^ 127 → n < 2 ^ 127 → bits_less m n ≡ bit_and m (bit_not w128 n)
+less_is : (m n : ℕ) → m < 2 ^ 127 → n < 2 ^ 127 → bits_and_not m n ≡ bit_and m (bit_not w128 n)
 less_is m n f g =
     let a : bit_and (2 ^ 128 - 1 - n) m + bit_and n m ≡ m = and-not 128 n m (omega arith) (omega arith) in
     omega (arith, a, and_comm m (2 ^ 128 - 1 - n), and_comm m n)
@@ -28,7 +28,7 @@ kept n h = to_z_pos w128 n h
 turned_back : (n : ℕ) → n < 2 ^ 127 → to_z w128 (bit_not w128 n) ≡ negsuc n
 turned_back n h = ap (to_z w128) (sym (turned n)) ∙ to_z-of_z w128 (negsuc n) (record { sfits = h })
 
-less_below : (m n : ℕ) → m < 2 ^ 127 → bits_less m n < 2 ^ 127
+less_below : (m n : ℕ) → m < 2 ^ 127 → bits_and_not m n < 2 ^ 127
 less_below m n h = omega arith
 
 and_below : (m n : ℕ) → m < 2 ^ 127 → bit_and m n < 2 ^ 127
@@ -59,14 +59,14 @@ or_of_turned m n f g =
       bit_at_and m n i,
     ))
 
-or_with_turned : (m n : ℕ) → m < 2 ^ 127 → n < 2 ^ 127 → bit_or m (bit_not w128 n) ≡ bit_not w128 (bits_less n m)
+or_with_turned : (m n : ℕ) → m < 2 ^ 127 → n < 2 ^ 127 → bit_or m (bit_not w128 n) ≡ bit_not w128 (bits_and_not n m)
 or_with_turned m n f g =
-    same_from_bits_below 128 _ _ (or_lt 128 m (bit_not w128 n) (wide m f) (turned_below n)) (turned_below (bits_less n m))
+    same_from_bits_below 128 _ _ (or_lt 128 m (bit_not w128 n) (wide m f) (turned_below n)) (turned_below (bits_and_not n m))
     (λ i h. omega (
       arith,
       bit_at_or m (bit_not w128 n) i,
       bit_at_not w128 n i (wide n g) h,
-      bit_at_not w128 (bits_less n m) i (wide (bits_less n m) (less_below n m g)) h,
+      bit_at_not w128 (bits_and_not n m) i (wide (bits_and_not n m) (less_below n m g)) h,
       ap (λ z. bit_at z i) (less_is n m g f),
       bit_at_and n (bit_not w128 m) i,
       bit_at_not w128 m i (wide m f) h,
@@ -116,9 +116,9 @@ bits_xor_fits (negsuc m) (negsuc n) f g = record { sfits = xor_lt 127 m n f.sfit
 pub and_is : (m n : ℤ) → FitsSigned w128 m → FitsSigned w128 n → to_z w128 (bit_and (of_z w128 m) (of_z w128 n)) ≡ bits_and m n
 and_is (pos m) (pos n) f g = kept (bit_and m n) (and_below m n f.sfits)
 and_is (pos m) (negsuc n) f g =
-    ap (λ k. to_z w128 (bit_and m k)) (turned n) ∙ ap (to_z w128) (sym (less_is m n f.sfits g.sfits)) ∙ kept (bits_less m n) (less_below m n f.sfits)
+    ap (λ k. to_z w128 (bit_and m k)) (turned n) ∙ ap (to_z w128) (sym (less_is m n f.sfits g.sfits)) ∙ kept (bits_and_not m n) (less_below m n f.sfits)
 and_is (negsuc m) (pos n) f g =
-    ap (λ k. to_z w128 (bit_and k n)) (turned m) ∙ ap (to_z w128) (and_comm (bit_not w128 m) n ∙ sym (less_is n m g.sfits f.sfits)) ∙ kept (bits_less n m) (less_below n m g.sfits)
+    ap (λ k. to_z w128 (bit_and k n)) (turned m) ∙ ap (to_z w128) (and_comm (bit_not w128 m) n ∙ sym (less_is n m g.sfits f.sfits)) ∙ kept (bits_and_not n m) (less_below n m g.sfits)
 and_is (negsuc m) (negsuc n) f g =
     ap (λ k. to_z w128 (bit_and k (of_z w128 (negsuc n)))) (turned m) ∙ ap (λ k. to_z w128 (bit_and (bit_not w128 m) k)) (turned n)
     ∙ ap (to_z w128) (and_of_turned m n f.sfits g.sfits) ∙ turned_back (bit_or m n) (or_lt 127 m n f.sfits g.sfits)
@@ -126,9 +126,9 @@ and_is (negsuc m) (negsuc n) f g =
 pub or_is : (m n : ℤ) → FitsSigned w128 m → FitsSigned w128 n → to_z w128 (bit_or (of_z w128 m) (of_z w128 n)) ≡ bits_or m n
 or_is (pos m) (pos n) f g = kept (bit_or m n) (or_lt 127 m n f.sfits g.sfits)
 or_is (pos m) (negsuc n) f g =
-    ap (λ k. to_z w128 (bit_or m k)) (turned n) ∙ ap (to_z w128) (or_with_turned m n f.sfits g.sfits) ∙ turned_back (bits_less n m) (less_below n m g.sfits)
+    ap (λ k. to_z w128 (bit_or m k)) (turned n) ∙ ap (to_z w128) (or_with_turned m n f.sfits g.sfits) ∙ turned_back (bits_and_not n m) (less_below n m g.sfits)
 or_is (negsuc m) (pos n) f g =
-    ap (λ k. to_z w128 (bit_or k n)) (turned m) ∙ ap (to_z w128) (or_comm (bit_not w128 m) n ∙ or_with_turned n m g.sfits f.sfits) ∙ turned_back (bits_less m n) (less_below m n f.sfits)
+    ap (λ k. to_z w128 (bit_or k n)) (turned m) ∙ ap (to_z w128) (or_comm (bit_not w128 m) n ∙ or_with_turned n m g.sfits f.sfits) ∙ turned_back (bits_and_not m n) (less_below m n f.sfits)
 or_is (negsuc m) (negsuc n) f g =
     ap (λ k. to_z w128 (bit_or k (of_z w128 (negsuc n)))) (turned m) ∙ ap (λ k. to_z w128 (bit_or (bit_not w128 m) k)) (turned n)
     ∙ ap (to_z w128) (or_of_turned m n f.sfits g.sfits) ∙ turned_back (bit_and m n) (and_below m n f.sfits)

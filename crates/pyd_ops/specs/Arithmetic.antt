@@ -4,10 +4,10 @@ use Rattle.std.specs.Int.{div_ceil, int_rem_euclid, int_pow}
 use Rattle.pyd_value.specs.declared.value.Value.{Value}
 use Rattle.pyd_value.specs.declared.fault.Fault.{Fault}
 use Rattle.pyd_value.specs.declared.fault.Kind.TheVariants.{ValueError, ZeroDivisionError}
-use Rattle.pyd_value.specs.declared.fault.Limit.TheVariants as bound
+use Rattle.pyd_value.specs.declared.fault.Limit.TheVariants as limit
 use Rattle.pyd_value.specs.declared.operator.BinOp.{BinOp}
 use Rattle.pyd_value.specs.declared.operator.BinOp.TheVariants.{Add, Sub, Mul, Div, Mod, Pow, Shl, Shr, And, Or, Xor}
-use Rattle.pyd_ops.specs.Answer.{raises, exceeds}
+use Rattle.pyd_ops.specs.Answer.{raise, exceed}
 use Rattle.pyd_ops.specs.Integer.{integer}
 use Rattle.pyd_ops.specs.Bits.{bits_and, bits_or, bits_xor}
 
@@ -24,41 +24,41 @@ floor_rem m (pos n) = int_rem_euclid m (pos n)
 floor_rem m (negsuc n) = neg_ℤ (int_rem_euclid (neg_ℤ m) (pos (suc n)))
 
 -- `m // n`
-abbrev pub divided : ℤ → ℤ → ℕ → Result Value Fault
-divided m (pos zero) line = raises ZeroDivisionError line
-divided m n line = integer (floor_div m n) line
+abbrev pub divide : ℤ → ℤ → ℕ → Result Value Fault
+divide m (pos zero) line = raise ZeroDivisionError line
+divide m n line = integer (floor_div m n) line
 
 -- `m % n`
-abbrev pub remaining : ℤ → ℤ → ℕ → Result Value Fault
-remaining m (pos zero) line = raises ZeroDivisionError line
-remaining m n line = integer (floor_rem m n) line
+abbrev pub remainder : ℤ → ℤ → ℕ → Result Value Fault
+remainder m (pos zero) line = raise ZeroDivisionError line
+remainder m n line = integer (floor_rem m n) line
 
 -- `m ** n`; Python's own result of a negative power isn't a whole number
-abbrev pub powered : ℤ → ℤ → ℕ → Result Value Fault
-powered m (pos n) line = integer (int_pow m n) line
-powered (pos zero) (negsuc n) line = raises ZeroDivisionError line
-powered m (negsuc n) line = exceeds bound.Outside line
+abbrev pub power : ℤ → ℤ → ℕ → Result Value Fault
+power m (pos n) line = integer (int_pow m n) line
+power (pos zero) (negsuc n) line = raise ZeroDivisionError line
+power m (negsuc n) line = exceed limit.Outside line
 
 -- `m << n`
-abbrev pub shifted_left : ℤ → ℤ → ℕ → Result Value Fault
-shifted_left m (pos n) line = integer (m *ℤ pos (2 ^ n)) line
-shifted_left m (negsuc n) line = raises ValueError line
+abbrev pub shift_left : ℤ → ℤ → ℕ → Result Value Fault
+shift_left m (pos n) line = integer (m *ℤ pos (2 ^ n)) line
+shift_left m (negsuc n) line = raise ValueError line
 
 -- `m >> n`
-abbrev pub shifted_right : ℤ → ℤ → ℕ → Result Value Fault
-shifted_right m (pos n) line = integer (floor_div m (pos (2 ^ n))) line
-shifted_right m (negsuc n) line = raises ValueError line
+abbrev pub shift_right : ℤ → ℤ → ℕ → Result Value Fault
+shift_right m (pos n) line = integer (floor_div m (pos (2 ^ n))) line
+shift_right m (negsuc n) line = raise ValueError line
 
 -- a binary operator on numbers
 abbrev pub arithmetic : BinOp → ℤ → ℤ → ℕ → Result Value Fault
 arithmetic Add m n line = integer (m +ℤ n) line
 arithmetic Sub m n line = integer (m -ℤ n) line
 arithmetic Mul m n line = integer (m *ℤ n) line
-arithmetic Div m n line = divided m n line
-arithmetic Mod m n line = remaining m n line
-arithmetic Pow m n line = powered m n line
-arithmetic Shl m n line = shifted_left m n line
-arithmetic Shr m n line = shifted_right m n line
+arithmetic Div m n line = divide m n line
+arithmetic Mod m n line = remainder m n line
+arithmetic Pow m n line = power m n line
+arithmetic Shl m n line = shift_left m n line
+arithmetic Shr m n line = shift_right m n line
 arithmetic And m n line = integer (bits_and m n) line
 arithmetic Or m n line = integer (bits_or m n) line
 arithmetic Xor m n line = integer (bits_xor m n) line

@@ -1,65 +1,60 @@
 -- The builtin functions of values (the library's "Built-in Functions").
-use Rattle.std.specs.Prelude.{ℕ, ℤ, pos, unsigned_abs, List, [], ◌∷◌, map, length, Bool, true, false, cond, Option, Some, None, Result, Ok, Err}
+use Rattle.std.specs.Prelude.{ℕ, ℤ, pos, unsigned_abs, List, [], ◌∷◌, length, Bool, true, false, cond, Option, Some, None, Result, Ok, Err}
 use Rattle.std.specs.Ordering.{is_lt, is_gt}
 use Rattle.pyd_value.specs.declared.value.Value.{Value, Int, Bool as Truth}
 use Rattle.pyd_value.specs.declared.fault.Fault.{Fault}
 use Rattle.pyd_value.specs.declared.fault.Kind.TheVariants.{TypeError, ValueError}
 use Rattle.pyd_value.specs.declared.operator.BinOp.TheVariants.{Add}
 use Rattle.pyd_value.specs.declared.operator.Builtin.{Builtin}
-use Rattle.pyd_value.specs.declared.operator.Builtin.TheVariants as builtin
-use Rattle.pyd_value.specs.Shape.{Shape, number, text, tuple, shape_of, number_of}
+use Rattle.pyd_value.specs.declared.operator.Builtin.TheVariants as variant
+use Rattle.pyd_value.specs.Shape.{Shape, text, shape_of, number_of}
 use Rattle.pyd_value.specs.Truth.{is_true}
-use Rattle.pyd_ops.specs.Answer.{raises}
+use Rattle.pyd_ops.specs.declared.extremes.Extreme.{Extreme}
+use Rattle.pyd_ops.specs.declared.extremes.Extreme.TheVariants.{Least, Greatest}
+use Rattle.pyd_ops.specs.Answer.{raise}
 use Rattle.pyd_ops.specs.Integer.{integer}
-use Rattle.pyd_ops.specs.Operation.{operated}
-use Rattle.pyd_ops.specs.Comparing.{stands}
-use Rattle.pyd_ops.specs.Indexing.{letter}
-
--- the members of a tuple or the characters of a text
-abbrev pub items_in : Shape Value → Option (List Value)
-items_in (text s) = Some (map letter s)
-items_in (tuple xs) = Some xs
-items_in a = None
-
-abbrev pub items_of : Value → Option (List Value)
-items_of a = items_in (shape_of a)
+use Rattle.pyd_ops.specs.Operators.{binary}
+use Rattle.pyd_ops.specs.Comparing.{order_is}
+use Rattle.pyd_ops.specs.Sequence.{items}
 
 -- how many items there are
-abbrev pub length_of : Option (List Value) → ℕ → Result Value Fault
-length_of (Some xs) line = integer (pos (length xs)) line
-length_of None line = raises TypeError line
+abbrev pub len : Option (List Value) → ℕ → Result Value Fault
+len (Some xs) line = integer (pos (length xs)) line
+len None line = raise TypeError line
 
 -- a number without its sign
-abbrev pub size_of_number : Option ℤ → ℕ → Result Value Fault
-size_of_number (Some n) line = integer (pos (unsigned_abs n)) line
-size_of_number None line = raises TypeError line
+abbrev pub absolute : Option ℤ → ℕ → Result Value Fault
+absolute (Some n) line = integer (pos (unsigned_abs n)) line
+absolute None line = raise TypeError line
 
 -- one of two answers, or the fault where there is no answer to the test
-abbrev pub decided : Option Bool → Result Value Fault → Result Value Fault → ℕ → Result Value Fault
-decided (Some b) first second line = cond b first second
-decided None first second line = raises TypeError line
+abbrev pub branch : Option Bool → Result Value Fault → Result Value Fault → ℕ → Result Value Fault
+branch (Some b) first second line = cond b first second
+branch None first second line = raise TypeError line
 
--- each candidate in turn takes the place of the best so far where it beats it
-abbrev pub best : (Value → Value → Option Bool) → Value → List Value → ℕ → Result Value Fault
-best beats x [] line = Ok x
-best beats x (y ∷ ys) line = decided (beats y x) (best beats y ys line) (best beats x ys line) line
+-- each candidate in turn takes the place of the best so far where it passes the test
+abbrev pub choose_best : (Value → Value → Option Bool) → Value → List Value → ℕ → Result Value Fault
+choose_best test x [] line = Ok x
+choose_best test x (y ∷ ys) line =
+    branch (test y x) (choose_best test y ys line) (choose_best test x ys line) line
 
--- what a candidate must be to beat the best so far: less for `min`, greater for `max`
-abbrev pub beating : Builtin → Value → Value → Option Bool
-beating builtin.Max = stands is_gt
-beating which = stands is_lt
+-- a candidate takes the place of the best so far only where it is less, or greater
+abbrev pub replaces : Extreme → Value → Value → Option Bool
+replaces Least = order_is is_lt
+replaces Greatest = order_is is_gt
 
 -- the best of all candidates, if there are any
-abbrev pub best_of : (Value → Value → Option Bool) → Option (List Value) → ℕ → Result Value Fault
-best_of beats (Some (x ∷ xs)) line = best beats x xs line
-best_of beats (Some []) line = raises ValueError line
-best_of beats None line = raises TypeError line
+abbrev pub choose_item : (Value → Value → Option Bool) → Option (List Value) → ℕ
+    → Result Value Fault
+choose_item test (Some (x ∷ xs)) line = choose_best test x xs line
+choose_item test (Some []) line = raise ValueError line
+choose_item test None line = raise TypeError line
 
 -- what one value has or what the arguments are
-abbrev pub chosen : (Value → Value → Option Bool) → List Value → ℕ → Result Value Fault
-chosen beats [] line = raises TypeError line
-chosen beats (a ∷ []) line = best_of beats (items_of a) line
-chosen beats (a ∷ b ∷ args) line = best beats a (b ∷ args) line
+abbrev pub choose : (Value → Value → Option Bool) → List Value → ℕ → Result Value Fault
+choose test [] line = raise TypeError line
+choose test (a ∷ []) line = choose_item test (items a) line
+choose test (a ∷ b ∷ args) line = choose_best test a (b ∷ args) line
 
 -- goes on with a value, and ends at a fault
 abbrev pub and_then : Result Value Fault → (Value → Result Value Fault) → Result Value Fault
@@ -67,34 +62,38 @@ and_then (Ok v) next = next v
 and_then (Err f) next = Err f
 
 -- `+` of each item from the left, the first fault being the answer
-abbrev pub summed : Value → List Value → ℕ → Result Value Fault
-summed total [] line = Ok total
-summed total (x ∷ xs) line = and_then (operated Add total x line) (λ v. summed v xs line)
+abbrev pub sum_items : Value → List Value → ℕ → Result Value Fault
+sum_items total [] line = Ok total
+sum_items total (x ∷ xs) line = and_then (binary Add total x line) (λ v. sum_items v xs line)
 
 -- a sum begins with anything but a text
-abbrev pub summed_from : Shape Value → Value → Option (List Value) → ℕ → Result Value Fault
-summed_from (text s) start xs line = raises TypeError line
-summed_from shape start (Some xs) line = summed start xs line
-summed_from shape start None line = raises TypeError line
+abbrev pub sum_in : Shape Value → Value → Option (List Value) → ℕ → Result Value Fault
+sum_in (text s) start xs line = raise TypeError line
+sum_in shape start (Some xs) line = sum_items start xs line
+sum_in shape start None line = raise TypeError line
+
+-- the sum of the items, if there are any, from a start
+abbrev pub sum : Value → Option (List Value) → ℕ → Result Value Fault
+sum start xs line = sum_in (shape_of start) start xs line
 
 -- a builtin function of these arguments, but for those that make texts, print or range
-abbrev pub called : Builtin → List Value → ℕ → Result Value Fault
-called builtin.Len (a ∷ []) line = length_of (items_of a) line
-called builtin.Abs (a ∷ []) line = size_of_number (number_of a) line
-called builtin.Min args line = chosen (beating builtin.Min) args line
-called builtin.Max args line = chosen (beating builtin.Max) args line
-called builtin.Sum (a ∷ []) line = summed_from (number (pos 0)) (Int (pos 0)) (items_of a) line
-called builtin.Sum (a ∷ start ∷ []) line = summed_from (shape_of start) start (items_of a) line
-called builtin.Bool [] line = Ok (Truth false)
-called builtin.Bool (a ∷ []) line = Ok (Truth (is_true a))
-called which args line = raises TypeError line
+abbrev pub builtin : Builtin → List Value → ℕ → Result Value Fault
+builtin variant.Len (a ∷ []) line = len (items a) line
+builtin variant.Abs (a ∷ []) line = absolute (number_of a) line
+builtin variant.Min args line = choose (replaces Least) args line
+builtin variant.Max args line = choose (replaces Greatest) args line
+builtin variant.Sum (a ∷ []) line = sum (Int (pos 0)) (items a) line
+builtin variant.Sum (a ∷ start ∷ []) line = sum start (items a) line
+builtin variant.Bool [] line = Ok (Truth false)
+builtin variant.Bool (a ∷ []) line = Ok (Truth (is_true a))
+builtin which args line = raise TypeError line
 
 -- those functions
 abbrev pub is_of_values : Builtin → Bool
-is_of_values builtin.Len = true
-is_of_values builtin.Abs = true
-is_of_values builtin.Min = true
-is_of_values builtin.Max = true
-is_of_values builtin.Sum = true
-is_of_values builtin.Bool = true
+is_of_values variant.Len = true
+is_of_values variant.Abs = true
+is_of_values variant.Min = true
+is_of_values variant.Max = true
+is_of_values variant.Sum = true
+is_of_values variant.Bool = true
 is_of_values which = false

@@ -12,45 +12,45 @@ use Rattle.pyd_value.specs.Shape.{Shape, text, tuple, shape_of}
 use Rattle.pyd_value.specs.Comparison.{comparison_of}
 use Rattle.pyd_value.specs.Equality.{is_equal}
 use Rattle.pyd_value.specs.Order.{ordered}
-use Rattle.pyd_ops.specs.Answer.{raises}
+use Rattle.pyd_ops.specs.Answer.{raise}
 
 -- a truth value, or the fault where there is no answer
-abbrev pub told : Option Bool → ℕ → Result Value Fault
-told (Some b) line = Ok (Truth b)
-told Option.None line = raises TypeError line
+abbrev pub truth_value : Option Bool → ℕ → Result Value Fault
+truth_value (Some b) line = Ok (Truth b)
+truth_value Option.None line = raise TypeError line
 
--- a test of how a stands to b, where the two have an order
-abbrev pub stands : (Ordering → Bool) → Value → Value → Option Bool
-stands test a b = ordered (shape_of a) (option_map test (comparison_of a b))
+-- a test of how a compares with b, where the two have an order
+abbrev pub order_is : (Ordering → Bool) → Value → Value → Option Bool
+order_is test a b = ordered (shape_of a) (option_map test (comparison_of a b))
 
 -- whether a text begins with another
-abbrev pub begins : List ℕ → List ℕ → Bool
-begins [] t = true
-begins (c ∷ s) [] = false
-begins (c ∷ s) (d ∷ t) = nat_eq c d && begins s t
+abbrev pub is_prefix : List ℕ → List ℕ → Bool
+is_prefix [] t = true
+is_prefix (c ∷ s) [] = false
+is_prefix (c ∷ s) (d ∷ t) = nat_eq c d && is_prefix s t
 
--- whether a text stands within another, at its beginning or later
-abbrev pub stands_within : List ℕ → List ℕ → Bool
-stands_within s [] = begins s []
-stands_within s (d ∷ t) = begins s (d ∷ t) || stands_within s t
+-- whether a text is part of another, at its beginning or later
+abbrev pub is_substring : List ℕ → List ℕ → Bool
+is_substring s [] = is_prefix s []
+is_substring s (d ∷ t) = is_prefix s (d ∷ t) || is_substring s t
 
--- whether a member equals a, or a text stands within the other
+-- whether a member equals a, or a text is a substring of the other
 abbrev pub membership : Value → Shape Value → Shape Value → Option Bool
 membership a x (tuple members) = Some (list_any (is_equal a) members)
-membership a (text s) (text t) = Some (stands_within s t)
+membership a (text s) (text t) = Some (is_substring s t)
 membership a x w = Option.None
 
 -- `a in b`
-abbrev pub contained : Value → Value → ℕ → Result Value Fault
-contained a b line = told (membership a (shape_of a) (shape_of b)) line
+abbrev pub contains : Value → Value → ℕ → Result Value Fault
+contains a b line = truth_value (membership a (shape_of a) (shape_of b)) line
 
 -- a comparison
-abbrev pub compared : CmpOp → Value → Value → ℕ → Result Value Fault
-compared Eq a b line = Ok (Truth (is_equal a b))
-compared Ne a b line = Ok (Truth (not (is_equal a b)))
-compared Lt a b line = told (stands is_lt a b) line
-compared Le a b line = told (stands is_le a b) line
-compared Gt a b line = told (stands is_gt a b) line
-compared Ge a b line = told (stands is_ge a b) line
-compared In a b line = contained a b line
-compared NotIn a b line = told (option_map not (membership a (shape_of a) (shape_of b))) line
+abbrev pub compare : CmpOp → Value → Value → ℕ → Result Value Fault
+compare Eq a b line = Ok (Truth (is_equal a b))
+compare Ne a b line = Ok (Truth (not (is_equal a b)))
+compare Lt a b line = truth_value (order_is is_lt a b) line
+compare Le a b line = truth_value (order_is is_le a b) line
+compare Gt a b line = truth_value (order_is is_gt a b) line
+compare Ge a b line = truth_value (order_is is_ge a b) line
+compare In a b line = contains a b line
+compare NotIn a b line = truth_value (option_map not (membership a (shape_of a) (shape_of b))) line

@@ -1,11 +1,12 @@
 -- Indexing and slicing (Python Language Reference, 6.3.2 and 6.3.3).
-use Rattle.std.specs.Prelude.{ℕ, suc, ◌-◌, min, nat_lt, ℤ, pos, negsuc, List, [], ◌∷◌, length, take, drop, slice_get, cond, Option, Some, None, Result, Ok}
+use Rattle.std.specs.Prelude.{ℕ, suc, ◌-◌, min, nat_lt, ℤ, pos, negsuc, List, length, take, drop, slice_get, cond, Option, Some, None, Result, Ok}
 use Rattle.pyd_value.specs.declared.value.Value.{Value, Text, Tuple}
 use Rattle.pyd_value.specs.declared.fault.Fault.{Fault}
 use Rattle.pyd_value.specs.declared.fault.Kind.TheVariants.{TypeError, IndexError}
 use Rattle.pyd_value.specs.Shape.{Shape, number, text, tuple, nothing, shape_of, number_of}
 use Rattle.pyd_ops.specs.declared.indexing.Bounds.{Bounds}
-use Rattle.pyd_ops.specs.Answer.{raises}
+use Rattle.pyd_ops.specs.Answer.{raise}
+use Rattle.pyd_ops.specs.Sequence.{character}
 
 -- where an index points in so many items, a negative one being counted from the end
 abbrev pub place : ℤ → ℕ → Option ℕ
@@ -21,44 +22,41 @@ at_place xs None = None
 abbrev pub item : {A : Type 0} → List A → ℤ → Option A
 item xs i = at_place xs (place i (length xs))
 
--- a text of one character
-abbrev pub letter : ℕ → Value
-letter c = Text (c ∷ [])
-
 -- a value, or the fault where there is none
-abbrev pub found : {A : Type 0} → (A → Value) → Option A → ℕ → Result Value Fault
-found value (Some x) line = Ok (value x)
-found value None line = raises IndexError line
+abbrev pub item_or_error : {A : Type 0} → (A → Value) → Option A → ℕ → Result Value Fault
+item_or_error value (Some x) line = Ok (value x)
+item_or_error value None line = raise IndexError line
 
 -- an item of a text or tuple, by a number
-abbrev pub indexed_in : Shape Value → Option ℤ → ℕ → Result Value Fault
-indexed_in (text s) (Some i) line = found letter (item s i) line
-indexed_in (tuple xs) (Some i) line = found (λ x. x) (item xs i) line
-indexed_in a i line = raises TypeError line
+abbrev pub index_in : Shape Value → Option ℤ → ℕ → Result Value Fault
+index_in (text s) (Some i) line = item_or_error character (item s i) line
+index_in (tuple xs) (Some i) line = item_or_error (λ x. x) (item xs i) line
+index_in a i line = raise TypeError line
 
 -- `a[i]`
-abbrev pub indexed : Value → Value → ℕ → Result Value Fault
-indexed a i line = indexed_in (shape_of a) (number_of i) line
+abbrev pub index : Value → Value → ℕ → Result Value Fault
+index a i line = index_in (shape_of a) (number_of i) line
 
 -- where a bound cuts so many items: counted from the end where negative, and never outside
-abbrev pub cut : ℤ → ℕ → ℕ
-cut (pos i) n = min i n
-cut (negsuc i) n = n - suc i
+abbrev pub clamp : ℤ → ℕ → ℕ
+clamp (pos i) n = min i n
+clamp (negsuc i) n = n - suc i
 
 -- where a bound that may be absent cuts
-abbrev pub edge : Option ℤ → ℕ → ℕ → ℕ
-edge (Some i) absent n = cut i n
-edge None absent n = absent
+abbrev pub bound_position : Option ℤ → ℕ → ℕ → ℕ
+bound_position (Some i) absent n = clamp i n
+bound_position None absent n = absent
 
 -- the items from one place to another
-abbrev pub stretch : {A : Type 0} → List A → ℕ → ℕ → List A
-stretch xs low high = take (high - low) (drop low xs)
+abbrev pub items_between : {A : Type 0} → List A → ℕ → ℕ → List A
+items_between xs low high = take (high - low) (drop low xs)
 
 -- the items between two bounds
-abbrev pub part : {A : Type 0} → List A → Option ℤ → Option ℤ → List A
-part xs low high = stretch xs (edge low 0 (length xs)) (edge high (length xs) (length xs))
+abbrev pub slice_items : {A : Type 0} → List A → Option ℤ → Option ℤ → List A
+slice_items xs low high =
+    let n = length xs in items_between xs (bound_position low 0 n) (bound_position high n n)
 
--- a bound is a number, or is absent as is `None`; anything else is no bound
+-- a bound is a number or `None`, which is as good as absent; anything else is no bound
 abbrev pub bound_in : Shape Value → Option (Option ℤ)
 bound_in (number n) = Some (Some n)
 bound_in nothing = Some None
@@ -69,11 +67,11 @@ bound None = Some None
 bound (Some v) = bound_in (shape_of v)
 
 -- a part of a text or tuple
-abbrev pub sliced_in : Shape Value → Option (Option ℤ) → Option (Option ℤ) → ℕ → Result Value Fault
-sliced_in (text s) (Some low) (Some high) line = Ok (Text (part s low high))
-sliced_in (tuple xs) (Some low) (Some high) line = Ok (Tuple (part xs low high))
-sliced_in a low high line = raises TypeError line
+abbrev pub slice_in : Shape Value → Option (Option ℤ) → Option (Option ℤ) → ℕ → Result Value Fault
+slice_in (text s) (Some low) (Some high) line = Ok (Text (slice_items s low high))
+slice_in (tuple xs) (Some low) (Some high) line = Ok (Tuple (slice_items xs low high))
+slice_in a low high line = raise TypeError line
 
 -- `a[low:high]`
-abbrev pub sliced : Value → Bounds → ℕ → Result Value Fault
-sliced a by line = sliced_in (shape_of a) (bound by.low) (bound by.high) line
+abbrev pub slice : Value → Bounds → ℕ → Result Value Fault
+slice a by line = slice_in (shape_of a) (bound by.low) (bound by.high) line

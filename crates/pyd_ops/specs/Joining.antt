@@ -1,31 +1,38 @@
--- Joining and repeating texts and tuples (Python Language Reference, 6.7), within the limits on values.
-use Rattle.std.specs.Prelude.{ℕ, zero, suc, nat_le, List, [], ◌++◌, Bool, cond, ◌&&◌, Result, Ok}
+-- Joining and repeating texts and tuples (Python Language Reference, 6.7), within the limits.
+use Rattle.std.specs.Prelude.{ℕ, ◌+◌, ◌-◌, ◌*◌, max, nat_le, nat_lt, List, Bool, cond, ◌&&◌, Result, Ok}
 use Rattle.pyd_value.specs.declared.value.Value.{Value, Text, Tuple}
 use Rattle.pyd_value.specs.declared.fault.Fault.{Fault}
-use Rattle.pyd_value.specs.declared.fault.Limit.TheVariants as bound
+use Rattle.pyd_value.specs.declared.fault.Limit.TheVariants as limit
 use Rattle.pyd_value.specs.Size.{size_of, nesting_of}
-use Rattle.pyd_ops.specs.Answer.{exceeds}
+use Rattle.pyd_value.specs.Limits.{largest_size, deepest_nesting}
+use Rattle.pyd_ops.specs.Answer.{exceed}
 
--- a size of at most 1,048,576, and tuples that nest at most 100 deep
-abbrev pub is_held : Value → Bool
-is_held v = nat_le (size_of v) 1048576 && nat_le (nesting_of v) 100
+-- a value within the limits on size and nesting
+abbrev pub fits : Value → Bool
+fits v = nat_le (size_of v) largest_size && nat_le (nesting_of v) deepest_nesting
 
--- a value within those limits, or the fault
-abbrev pub held : Value → ℕ → Result Value Fault
-held v line = cond (is_held v) (Ok v) (exceeds bound.Size line)
+-- whether two tuples make one that fits, by their sizes and nestings
+abbrev pub fit_together : Value → Value → Bool
+fit_together a b =
+    nat_le (size_of a + size_of b) (1 + largest_size)
+    && nat_le (max (nesting_of a) (nesting_of b)) deepest_nesting
 
--- a list so many times over
-abbrev pub times : {A : Type 0} → ℕ → List A → List A
-times zero xs = []
-times (suc n) xs = xs ++ times n xs
+-- whether a tuple fits n times over, where n isn't 0
+abbrev pub fits_repeated : Value → ℕ → Bool
+fits_repeated a n =
+    nat_lt (n * (size_of a - 1)) largest_size && nat_le (nesting_of a) deepest_nesting
 
--- a text within those limits, or the fault
-abbrev pub held_text : List ℕ → ℕ → Result Value Fault
-held_text s line = held (Text s) line
+-- the value if it fits, or the fault
+abbrev pub if_fits : Value → ℕ → Result Value Fault
+if_fits v line = cond (fits v) (Ok v) (exceed limit.Size line)
 
--- a tuple within those limits, or the fault
-abbrev pub held_tuple : List Value → ℕ → Result Value Fault
-held_tuple members line = held (Tuple members) line
+-- a text if it fits, or the fault
+abbrev pub text_if_fits : List ℕ → ℕ → Result Value Fault
+text_if_fits s line = if_fits (Text s) line
+
+-- a tuple if it fits, or the fault
+abbrev pub tuple_if_fits : List Value → ℕ → Result Value Fault
+tuple_if_fits members line = if_fits (Tuple members) line
 
 -- a text as it is
 abbrev pub text_value : List ℕ → Result Value Fault

@@ -3,9 +3,11 @@ pub mod Integer
 pub mod Bits
 pub mod Arithmetic
 pub mod Joining
-pub mod Operation
+pub mod Operators
 pub mod Comparing
-pub mod Spans
+pub mod Ranges
+pub mod Sequence
 pub mod Indexing
 pub mod Calls
-pub mod Limits
+pub mod Limited
+pub mod Laws

@@ -2,75 +2,75 @@
 //! the limits refuse.
 ghost use Rattle.std.specs.Prelude.{◌≡◌, ◌≢◌, ◌^◌, pos, negsuc, ◌+ℤ◌, ◌-ℤ◌, ◌*ℤ◌};
 ghost use Rattle.std.specs.Int.{int_pow};
-ghost use Rattle.pyd_ops.specs.Answer.{answered};
+ghost use Rattle.pyd_ops.specs.Answer.{outcome_of};
 ghost use Rattle.pyd_ops.specs.Integer.{within};
 ghost use Rattle.pyd_ops.specs.Bits.{bits_and, bits_or, bits_xor};
-ghost use Rattle.pyd_ops.specs.Arithmetic.{arithmetic, divided, remaining, powered, shifted_left, shifted_right, floor_div, floor_rem};
+ghost use Rattle.pyd_ops.specs.Arithmetic as spec;
 
-use crate::answer::{exceed, integer, raise};
+use crate::answer::{checked, exceed, raise};
 use pyd_value::{BinOp, Kind, Limit, Outcome};
 
 /// A binary operator on two integers.
 pub(crate) fn arithmetic(op: BinOp, m: i128, n: i128, line: u32) -> Outcome
-    ensures { result ≡ answered (arithmetic op m n line) }
+    ensures { result ≡ outcome_of (spec.arithmetic op m n line) }
 {
     match op {
-        BinOp::Add => integer(sum(m, n), line),
-        BinOp::Sub => integer(difference(m, n), line),
-        BinOp::Mul => integer(product(m, n), line),
+        BinOp::Add => checked(checked_add(m, n), line),
+        BinOp::Sub => checked(checked_sub(m, n), line),
+        BinOp::Mul => checked(checked_mul(m, n), line),
         BinOp::Div => divide(m, n, line),
-        BinOp::Mod => remain(m, n, line),
-        BinOp::Pow => raise_to(m, n, line),
+        BinOp::Mod => remainder(m, n, line),
+        BinOp::Pow => power(m, n, line),
         BinOp::Shl => shift_left(m, n, line),
         BinOp::Shr => shift_right(m, n, line),
-        BinOp::And => integer(common_bits(m, n), line),
-        BinOp::Or => integer(all_bits(m, n), line),
-        BinOp::Xor => integer(differing_bits(m, n), line),
+        BinOp::And => checked(bits_and(m, n), line),
+        BinOp::Or => checked(bits_or(m, n), line),
+        BinOp::Xor => checked(bits_xor(m, n), line),
     }
 }
 
-fn sum(m: i128, n: i128) -> Option<i128>
+fn checked_add(m: i128, n: i128) -> Option<i128>
     ensures { result ≡ within (m +ℤ n) }
 {
     m.checked_add(n)
 }
 
-fn difference(m: i128, n: i128) -> Option<i128>
+fn checked_sub(m: i128, n: i128) -> Option<i128>
     ensures { result ≡ within (m -ℤ n) }
 {
     m.checked_sub(n)
 }
 
-fn product(m: i128, n: i128) -> Option<i128>
+fn checked_mul(m: i128, n: i128) -> Option<i128>
     ensures { result ≡ within (m *ℤ n) }
 {
     m.checked_mul(n)
 }
 
 fn divide(m: i128, n: i128, line: u32) -> Outcome
-    ensures { result ≡ answered (divided m n line) }
+    ensures { result ≡ outcome_of (spec.divide m n line) }
 {
     if n == 0 {
         raise(Kind::ZeroDivisionError, line)
     } else {
-        integer(quotient(m, n), line)
+        checked(floor_div(m, n), line)
     }
 }
 
-fn remain(m: i128, n: i128, line: u32) -> Outcome
-    ensures { result ≡ answered (remaining m n line) }
+fn remainder(m: i128, n: i128, line: u32) -> Outcome
+    ensures { result ≡ outcome_of (spec.remainder m n line) }
 {
     if n == 0 {
         raise(Kind::ZeroDivisionError, line)
     } else {
-        integer(Some(remainder(m, n)), line)
+        checked(Some(floor_rem(m, n)), line)
     }
 }
 
 /// The quotient rounded down, and none for the one that is too great.
-fn quotient(m: i128, n: i128) -> Option<i128>
+fn floor_div(m: i128, n: i128) -> Option<i128>
     requires { n ≢ pos 0 }
-    ensures { result ≡ within (floor_div m n) }
+    ensures { result ≡ within (spec.floor_div m n) }
 {
     let rounded = m.checked_div_euclid(n)?;
     if n < 0 && m.wrapping_rem_euclid(n) != 0 {
@@ -81,20 +81,20 @@ fn quotient(m: i128, n: i128) -> Option<i128>
 }
 
 /// The remainder with the divisor's sign.
-fn remainder(m: i128, n: i128) -> i128
+fn floor_rem(m: i128, n: i128) -> i128
     requires { n ≢ pos 0 }
-    ensures value { result ≡ floor_rem m n }
+    ensures value { result ≡ spec.floor_rem m n }
     ensures within { within result ≡ Some result }
 {
     let rest = m.wrapping_rem_euclid(n);
     if n < 0 && rest != 0 { rest + n } else { rest }
 }
 
-fn raise_to(m: i128, n: i128, line: u32) -> Outcome
-    ensures { result ≡ answered (powered m n line) }
+fn power(m: i128, n: i128, line: u32) -> Outcome
+    ensures { result ≡ outcome_of (spec.power m n line) }
 {
     if n >= 0 {
-        integer(power(m, n as u128), line)
+        checked(checked_power(m, n as u128), line)
     } else if m == 0 {
         raise(Kind::ZeroDivisionError, line)
     } else {
@@ -103,7 +103,7 @@ fn raise_to(m: i128, n: i128, line: u32) -> Outcome
 }
 
 /// A power. But for the bases 0, 1 and -1 no exponent from 128 on has one.
-fn power(m: i128, n: u128) -> Option<i128>
+fn checked_power(m: i128, n: u128) -> Option<i128>
     ensures { result ≡ within (int_pow m n) }
 {
     if n < 128 {
@@ -118,17 +118,17 @@ fn power(m: i128, n: u128) -> Option<i128>
 }
 
 fn shift_left(m: i128, n: i128, line: u32) -> Outcome
-    ensures { result ≡ answered (shifted_left m n line) }
+    ensures { result ≡ outcome_of (spec.shift_left m n line) }
 {
     if n >= 0 {
-        integer(shifted_up(m, n as u128), line)
+        checked(checked_shift_left(m, n as u128), line)
     } else {
         raise(Kind::ValueError, line)
     }
 }
 
 /// The product with a power of 2. Of those from 2^127 on only -2^127 and 0 are within the limits.
-fn shifted_up(m: i128, n: u128) -> Option<i128>
+fn checked_shift_left(m: i128, n: u128) -> Option<i128>
     ensures { result ≡ within (m *ℤ pos (2 ^ n)) }
 {
     if n < 127 {
@@ -143,36 +143,36 @@ fn shifted_up(m: i128, n: u128) -> Option<i128>
 }
 
 fn shift_right(m: i128, n: i128, line: u32) -> Outcome
-    ensures { result ≡ answered (shifted_right m n line) }
+    ensures { result ≡ outcome_of (spec.shift_right m n line) }
 {
     if n >= 0 {
-        integer(Some(shifted_down(m, n as u128)), line)
+        checked(Some(floor_shift_right(m, n as u128)), line)
     } else {
         raise(Kind::ValueError, line)
     }
 }
 
 /// The quotient by a power of 2. From 2^127 on it is 0 or -1.
-fn shifted_down(m: i128, n: u128) -> i128
-    ensures value { result ≡ floor_div m (pos (2 ^ n)) }
+fn floor_shift_right(m: i128, n: u128) -> i128
+    ensures value { result ≡ spec.floor_div m (pos (2 ^ n)) }
     ensures within { within result ≡ Some result }
 {
     m >> n.min(127) as u32
 }
 
-fn common_bits(m: i128, n: i128) -> Option<i128>
+fn bits_and(m: i128, n: i128) -> Option<i128>
     ensures { result ≡ within (bits_and m n) }
 {
     Some(m & n)
 }
 
-fn all_bits(m: i128, n: i128) -> Option<i128>
+fn bits_or(m: i128, n: i128) -> Option<i128>
     ensures { result ≡ within (bits_or m n) }
 {
     Some(m | n)
 }
 
-fn differing_bits(m: i128, n: i128) -> Option<i128>
+fn bits_xor(m: i128, n: i128) -> Option<i128>
     ensures { result ≡ within (bits_xor m n) }
 {
     Some(m ^ n)

@@ -1,29 +1,27 @@
 //! Joining and repeating texts and tuples. What the limits refuse isn't built.
-ghost use Rattle.std.specs.Prelude.{◌≡◌, ◌+◌, ◌-◌, ◌*◌, ◌<◌, ◌≤◌, max, nat_le, nat_lt, ◌&&◌, ◌++◌, IfOk, OnOk, string_bytes};
+ghost use Rattle.std.specs.Prelude.{◌≡◌, ◌≤◌, ◌++◌, IfOk, OnOk, string_bytes};
 ghost use Rattle.std.specs.Str.{chars};
-ghost use Rattle.pyd_value.specs.Size.{size_of, nesting_of};
-ghost use Rattle.pyd_ops.specs.Answer.{answered};
-ghost use Rattle.pyd_ops.specs.Joining.{held_text, text_value, times};
+ghost use Rattle.pyd_ops.specs.Answer.{Answers};
+ghost use Rattle.std.specs.List.{repeat};
+ghost use Rattle.pyd_ops.specs.Joining as spec;
 
 use crate::answer::exceed;
-use pyd_value::{Limit, List, NoMemory, Outcome, Text, Value, nest, size, try_copy};
+use pyd_value::{
+    DEEPEST_NESTING, LARGEST_SIZE, Limit, List, NoMemory, Outcome, Text, Value, nest, size,
+    try_copy,
+};
 use std::alloc::Global;
-
-/// The greatest size of a value.
-const LARGEST: u64 = 1_048_576;
-
-/// The deepest nesting of a tuple.
-const DEEPEST: u32 = 100;
 
 /// One text and then the other, or `SizeLimit`.
 pub(crate) fn join_texts(alloc: Global, s: &Text, t: &Text, line: u32) -> Result<Outcome, NoMemory>
-    ensures { IfOk result (λ outcome. outcome ≡ answered (held_text (s.now ++ t.now) line)) }
+    ensures { Answers result (spec.text_if_fits (s.now ++ t.now) line) }
 {
     let (s, t) = (s.as_str(), t.as_str());
-    if s.len().saturating_add(t.len()) as u64 >= LARGEST {
+    if s.len().saturating_add(t.len()) as u64 >= LARGEST_SIZE {
         return Ok(exceed(Limit::Size, line));
     }
-    text(alloc, join_strs(alloc, s, t)?.as_str())
+    let joined = join_strs(alloc, s, t)?;
+    text_value(alloc, joined)
 }
 
 fn join_strs(alloc: Global, s: &str, t: &str) -> Result<String, NoMemory>
@@ -34,28 +32,29 @@ fn join_strs(alloc: Global, s: &str, t: &str) -> Result<String, NoMemory>
     Ok(joined)
 }
 
-fn text(alloc: Global, s: &str) -> Result<Outcome, NoMemory>
-    ensures { IfOk result (λ outcome. outcome ≡ answered (text_value (chars s.now))) }
+fn text_value(alloc: Global, s: String) -> Result<Outcome, NoMemory>
+    ensures { Answers result (spec.text_value (chars (string_bytes s))) }
 {
-    Ok(Outcome::Ok(Value::Text(Text::of(alloc, s)?)))
+    Ok(Outcome::Ok(Value::Text(Text::from_string(alloc, s)?)))
 }
 
 /// A text so many times over, or `SizeLimit`. An empty text stays empty at once.
 pub(crate) fn repeat_text(alloc: Global, s: &Text, n: u128, line: u32) -> Result<Outcome, NoMemory>
-    ensures { IfOk result (λ outcome. outcome ≡ answered (held_text (times n s.now) line)) }
+    ensures { Answers result (spec.text_if_fits (repeat n s.now) line) }
 {
     let s = s.as_str();
     if s.is_empty() {
-        return text(alloc, s);
+        return text_value(alloc, String::new(alloc));
     }
-    if n.saturating_mul(s.len() as u128) >= LARGEST as u128 {
+    if n.saturating_mul(s.len() as u128) >= LARGEST_SIZE as u128 {
         return Ok(exceed(Limit::Size, line));
     }
-    text(alloc, repeat_str(alloc, s, n)?.as_str())
+    let repeated = repeat_str(alloc, s, n)?;
+    text_value(alloc, repeated)
 }
 
 fn repeat_str(alloc: Global, s: &str, n: u128) -> Result<String, NoMemory>
-    ensures { IfOk result (λ repeated. string_bytes repeated ≡ times n s.now) }
+    ensures { IfOk result (λ repeated. string_bytes repeated ≡ repeat n s.now) }
 {
     let mut repeated = String::new(alloc);
     for _ in 0..n {
@@ -66,18 +65,18 @@ fn repeat_str(alloc: Global, s: &str, n: u128) -> Result<String, NoMemory>
 
 /// Whether two tuples make one within the limits.
 pub(crate) fn fit_together(a: &Value, b: &Value) -> bool
-    ensures { result ≡ (nat_le (size_of a.now + size_of b.now) 1048577 && nat_le (max (nesting_of a.now) (nesting_of b.now)) 100) }
+    ensures { result ≡ spec.fit_together a.now b.now }
 {
-    size(a).saturating_add(size(b)) <= LARGEST + 1 && nest(a).max(nest(b)) <= DEEPEST
+    size(a).saturating_add(size(b)) <= LARGEST_SIZE + 1 && nest(a).max(nest(b)) <= DEEPEST_NESTING
 }
 
 /// Whether a tuple that isn't empty is within the limits so many times over.
 pub(crate) fn fits_repeated(a: &Value, n: u128) -> bool
     requires { 1 ≤ n }
-    ensures { result ≡ (nat_lt (n * (size_of a.now - 1)) 1048576 && nat_le (nesting_of a.now) 100) }
+    ensures { result ≡ spec.fits_repeated a.now n }
 {
     let members = size(a).saturating_sub(1) as u128;
-    n.saturating_mul(members) < LARGEST as u128 && nest(a) <= DEEPEST
+    n.saturating_mul(members) < LARGEST_SIZE as u128 && nest(a) <= DEEPEST_NESTING
 }
 
 /// The members of one tuple and then those of the other.
@@ -96,7 +95,7 @@ pub(crate) fn join_members(
 
 /// The members so many times over.
 pub(crate) fn repeat_members(alloc: Global, xs: &[Value], n: u128) -> Result<List<Value>, NoMemory>
-    ensures { IfOk result (λ members. members ≡ times n xs.now) }
+    ensures { IfOk result (λ members. members ≡ repeat n xs.now) }
 {
     let mut members = List::new(alloc);
     for _ in 0..n {

@@ -1,7 +1,7 @@
 //! The numbers of a `range` (Python Standard Library, "Ranges").
 ghost use Rattle.std.specs.Prelude.{◌≡◌, ◌≢◌, pos, ◌-ℤ◌, [], ◌∷◌};
-ghost use Rattle.pyd_ops.specs.Integer.{at_least_none};
-ghost use Rattle.pyd_ops.specs.Spans.{counted, spanned, ranged_over, ranged};
+ghost use Rattle.pyd_ops.specs.Integer.{positive_part};
+ghost use Rattle.pyd_ops.specs.Ranges as spec;
 
 use pyd_value::{Fault, Kind, Value, number};
 
@@ -13,36 +13,36 @@ pub struct Span {
     pub count: i128,
 }
 
-/// The numbers of `range` with these arguments: an end, a beginning and an end, or these and a step.
-/// `TypeError` where they are fewer or more, or one isn't a number, else `ValueError` where the step
-/// is 0. A count above 2^127 - 1 is cut to it.
+/// The numbers of `range` with these arguments: an end, a beginning and an end, or these and a
+/// step. `TypeError` where they are fewer or more, or one isn't a number, else `ValueError` where
+/// the step is 0. A count above 2^127 - 1 is cut to it.
 pub fn range_of(args: &[Value], line: u32) -> Result<Span, Fault>
-    ensures { result ≡ ranged args.now line }
+    ensures { result ≡ spec.range_of args.now line }
 {
     match args {
-        [end] => bounded(Some(0), number(end), Some(1), line),
-        [from, end] => bounded(number(from), number(end), Some(1), line),
-        [from, end, step] => bounded(number(from), number(end), number(step), line),
+        [end] => range_of_numbers(Some(0), number(end), Some(1), line),
+        [from, end] => range_of_numbers(number(from), number(end), Some(1), line),
+        [from, end, step] => range_of_numbers(number(from), number(end), number(step), line),
         _ => Err(Fault::Raised(Kind::TypeError, line)),
     }
 }
 
-fn bounded(
+fn range_of_numbers(
     from: Option<i128>,
     end: Option<i128>,
     step: Option<i128>,
     line: u32,
 ) -> Result<Span, Fault>
-    ensures { result ≡ ranged_over (from ∷ end ∷ step ∷ []) line }
+    ensures { result ≡ spec.range_of_numbers (from ∷ end ∷ step ∷ []) line }
 {
     match (from, end, step) {
-        (Some(from), Some(end), Some(step)) => stepped(from, end, step, line),
+        (Some(from), Some(end), Some(step)) => span_of(from, end, step, line),
         _ => Err(Fault::Raised(Kind::TypeError, line)),
     }
 }
 
-fn stepped(from: i128, end: i128, step: i128, line: u32) -> Result<Span, Fault>
-    ensures { result ≡ spanned from end step line }
+fn span_of(from: i128, end: i128, step: i128, line: u32) -> Result<Span, Fault>
+    ensures { result ≡ spec.span_of from end step line }
 {
     if step == 0 {
         return Err(Fault::Raised(Kind::ValueError, line));
@@ -54,7 +54,7 @@ fn stepped(from: i128, end: i128, step: i128, line: u32) -> Result<Span, Fault>
 /// How many numbers come before the end.
 fn count(from: i128, end: i128, step: i128) -> u128
     requires { step ≢ pos 0 }
-    ensures { result ≡ counted from end step }
+    ensures { result ≡ spec.count from end step }
 {
     if step < 0 {
         distance(end, from).div_ceil(step.unsigned_abs())
@@ -65,7 +65,7 @@ fn count(from: i128, end: i128, step: i128) -> u128
 
 /// How far the second number lies above the first, or 0.
 fn distance(low: i128, high: i128) -> u128
-    ensures { result ≡ at_least_none (high -ℤ low) }
+    ensures { result ≡ positive_part (high -ℤ low) }
 {
     if low < high { low.abs_diff(high) } else { 0 }
 }

@@ -1,171 +1,155 @@
 //! Operations compared with CPython's answers, and those that the profile narrows.
 
+mod calling;
 mod narrowed;
-mod operators;
-mod relations;
+mod reading;
 mod rows;
 
 use crate::*;
-use pyd_value::{
-    BinOp, CmpOp, Fault, Kind, Limit, List, NoMemory, Outcome, Text, UnOp, Value, try_copy,
-};
+use pyd_value::{Fault, Kind, List, NoMemory, Outcome, UnOp, Value, try_copy};
+use reading::{binary_operator, comparison, copies, fault, value};
 use std::alloc::Global;
 use std::test::Fail;
 
 /// The line that is handed in.
 const LINE: u32 = 7;
 
-/// What is asked of operands.
-#[derive(Clone, Copy, Debug)]
-pub(crate) enum Ask {
-    Unary(UnOp),
-    Binary(BinOp),
-    Compare(CmpOp),
-    Index,
-    Call(Builtin),
-}
-
-// Copies of the values at these places.
-fn copies(alloc: Global, values: &List<Value>, places: &[usize]) -> Result<List<Value>, NoMemory> {
-    let mut members = List::new(alloc);
-    for place in places {
-        if let Some(member) = values.get(*place) {
-            members.add(try_copy(alloc, member)?)?;
-        }
-    }
-    Ok(members)
-}
-
-// The values of the table, in its order.
-fn values(alloc: Global) -> Result<List<Value>, NoMemory> {
-    let mut values = List::new(alloc);
-    values.add(Value::None)?;
-    values.add(Value::Bool(false))?;
-    values.add(Value::Bool(true))?;
-    for n in &rows::INTS {
-        values.add(Value::Int(*n))?;
-    }
-    for text in &rows::TEXTS {
-        values.add(Value::Text(Text::of(alloc, *text)?))?;
-    }
-    for places in &rows::TUPLES {
-        let members = copies(alloc, &values, *places)?;
-        values.add(Value::Tuple(members))?;
-    }
-    Ok(values)
-}
-
-fn fault(mark: &str) -> Fault {
-    match mark {
-        "T" => Fault::Raised(Kind::TypeError, LINE),
-        "V" => Fault::Raised(Kind::ValueError, LINE),
-        "I" => Fault::Raised(Kind::IndexError, LINE),
-        "Z" => Fault::Raised(Kind::ZeroDivisionError, LINE),
-        "L" => Fault::Limit(Limit::Int, LINE),
-        "S" => Fault::Limit(Limit::Size, LINE),
-        _ => Fault::Limit(Limit::Outside, LINE),
+// What an operation answers.
+fn outcome(alloc: Global, word: &str, operands: &[Value]) -> Result<Outcome, NoMemory> {
+    match operands {
+        [a] => outcome_of_one(alloc, word, a, operands),
+        [a, b] => outcome_of_two(alloc, word, a, b, operands),
+        [a, low, high] => outcome_of_slice(alloc, a, low, high),
+        _ => outcome_of_call(alloc, word, operands),
     }
 }
 
-// Whether an outcome is the one that is marked: the value at a place, or a fault.
-fn agrees(values: &List<Value>, outcome: &Outcome, mark: &str) -> bool {
-    match outcome {
-        Outcome::Ok(value) => match mark.parse::<usize>() {
-            Ok(place) => values.get(place) == Some(value),
-            Err(_) => mark == "-",
-        },
-        Outcome::Fault(given) => mark == "-" || *given == fault(mark),
-    }
-}
-
-fn answer(alloc: Global, ask: Ask, operands: &[Value]) -> Result<Outcome, NoMemory> {
-    match (ask, operands) {
-        (Ask::Unary(op), [a]) => unary(op, a, LINE),
-        (Ask::Binary(op), [a, b]) => binary(alloc, op, a, b, LINE),
-        (Ask::Compare(op), [a, b]) => Ok(compare(op, a, b, LINE)),
-        (Ask::Index, [a, b]) => index(alloc, a, b, LINE),
-        (Ask::Call(Builtin::Len), args) => builtin(alloc, Builtin::Len, args, LINE),
-        (Ask::Call(Builtin::Abs), args) => builtin(alloc, Builtin::Abs, args, LINE),
-        (Ask::Call(Builtin::Min), args) => builtin(alloc, Builtin::Min, args, LINE),
-        (Ask::Call(Builtin::Max), args) => builtin(alloc, Builtin::Max, args, LINE),
-        (Ask::Call(Builtin::Sum), args) => builtin(alloc, Builtin::Sum, args, LINE),
-        (_, args) => builtin(alloc, Builtin::Bool, args, LINE),
-    }
-}
-
-// How many of the marks of a row are answered, with this first operand and each second one.
-fn agreeing(
+fn outcome_of_one(
     alloc: Global,
-    values: &List<Value>,
-    ask: Ask,
-    first: usize,
-    marks: &str,
-) -> Result<usize, NoMemory> {
+    word: &str,
+    a: &Value,
+    operands: &[Value],
+) -> Result<Outcome, NoMemory> {
+    match word {
+        "Neg" => unary(UnOp::Neg, a, LINE),
+        "Pos" => unary(UnOp::Pos, a, LINE),
+        "Not" => unary(UnOp::Not, a, LINE),
+        "Items" => outcome_of_items(alloc, a),
+        _ => outcome_of_call(alloc, word, operands),
+    }
+}
+
+fn outcome_of_two(
+    alloc: Global,
+    word: &str,
+    a: &Value,
+    b: &Value,
+    operands: &[Value],
+) -> Result<Outcome, NoMemory> {
+    if let Some(op) = binary_operator(word) {
+        return binary(alloc, op, a, b, LINE);
+    }
+    if let Some(op) = comparison(word) {
+        return Ok(compare(op, a, b, LINE));
+    }
+    match word {
+        "Index" => index(alloc, a, b, LINE),
+        "ItemAt" => outcome_of_item(alloc, a, b),
+        _ => outcome_of_call(alloc, word, operands),
+    }
+}
+
+fn outcome_of_call(alloc: Global, word: &str, args: &[Value]) -> Result<Outcome, NoMemory> {
+    match word {
+        "Len" => builtin(alloc, Builtin::Len, args, LINE),
+        "Abs" => builtin(alloc, Builtin::Abs, args, LINE),
+        "Min" => builtin(alloc, Builtin::Min, args, LINE),
+        "Max" => builtin(alloc, Builtin::Max, args, LINE),
+        "Sum" => builtin(alloc, Builtin::Sum, args, LINE),
+        _ => builtin(alloc, Builtin::Bool, args, LINE),
+    }
+}
+
+// A lower bound of `None` is left out, which is as good.
+fn outcome_of_slice(
+    alloc: Global,
+    a: &Value,
+    low: &Value,
+    high: &Value,
+) -> Result<Outcome, NoMemory> {
+    let low = match low {
+        Value::None => None,
+        _ => Some(try_copy(alloc, low)?),
+    };
+    let high = Some(try_copy(alloc, high)?);
+    slice(alloc, a, &Bounds { low, high }, LINE)
+}
+
+fn outcome_of_items(alloc: Global, a: &Value) -> Result<Outcome, NoMemory> {
+    match items(alloc, a)? {
+        Some(members) => Ok(Outcome::Ok(Value::Tuple(members))),
+        None => Ok(Outcome::Fault(Fault::Raised(Kind::TypeError, LINE))),
+    }
+}
+
+fn outcome_of_item(alloc: Global, a: &Value, t: &Value) -> Result<Outcome, NoMemory> {
+    let t = match t {
+        Value::Int(t) if *t >= 0 && *t < 100 => *t as u64,
+        _ => 100,
+    };
+    match item_at(alloc, a, t)? {
+        Some(item) => Ok(Outcome::Ok(item)),
+        None => Ok(Outcome::Fault(Fault::Raised(Kind::IndexError, LINE))),
+    }
+}
+
+// Whether an outcome is the fault of this letter, or else this value.
+fn agrees(outcome: &Outcome, mark: &str, wanted: Option<&Value>) -> bool {
+    match (outcome, fault(mark)) {
+        (Outcome::Ok(value), None) => wanted == Some(value),
+        (Outcome::Fault(given), Some(fault)) => *given == fault,
+        _ => false,
+    }
+}
+
+// How many of a line's answers are given.
+fn agreed(alloc: Global, values: &List<Value>, line: &str) -> Result<usize, NoMemory> {
     let mut agreed: usize = 0;
-    for (second, mark) in rows::OPERANDS.iter().zip(marks.split_whitespace()) {
-        let skipped = mark == "-";
-        let pair = copies(alloc, values, &[first, *second])?;
-        if skipped || agrees(values, &answer(alloc, ask, pair.as_slice())?, mark) {
-            agreed = agreed.saturating_add(1);
+    let mut words = line.split_whitespace();
+    let Some(word) = words.next() else {
+        return Ok(agreed);
+    };
+    for entry in words {
+        if let Some((places, mark)) = entry.split_once(':') {
+            let operands = copies(alloc, values, places)?;
+            let given = outcome(alloc, word, operands.as_slice())?;
+            if agrees(&given, mark, reading::at(values, mark)) {
+                agreed = agreed.saturating_add(1);
+            }
         }
     }
     Ok(agreed)
 }
 
-// A value at a place, or none.
-fn bound(alloc: Global, values: &List<Value>, place: usize) -> Result<Option<Value>, NoMemory> {
-    match values.get(place) {
-        Some(value) => Ok(Some(try_copy(alloc, value)?)),
-        None => Ok(None),
+// The values of the table, in its order.
+fn values(alloc: Global) -> Result<List<Value>, NoMemory> {
+    let mut values = List::new(alloc);
+    for word in rows::VALUES.lines() {
+        let next = value(alloc, &values, word)?;
+        values.add(next)?;
     }
+    Ok(values)
 }
 
 #[test]
-fn operators_answer_as_in_python(rt: HostRuntime) -> Result<(), Fail> {
+fn operations_answer_as_in_python(rt: HostRuntime) -> Result<(), Fail> {
     let values = values(rt.alloc())?;
-    for (ask, rows) in operators::OPERATORS.iter().chain(&relations::RELATIONS) {
-        for (first, marks) in rows::OPERANDS.iter().zip(*rows) {
-            let agreed = agreeing(rt.alloc(), &values, *ask, *first, *marks)?;
-            assert_eq!(rt; agreed, rows::OPERANDS.len(), "{ask:?} of {first}");
-        }
+    let mut asked: usize = 0;
+    for line in rows::ANSWERS.lines() {
+        let agreed = agreed(rt.alloc(), &values, line)?;
+        assert_eq!(rt; agreed, line.split_whitespace().skip(1).count(), "{line}");
+        asked = asked.saturating_add(agreed);
     }
-    Ok(())
-}
-
-#[test]
-fn single_operands_answer_as_in_python(rt: HostRuntime) -> Result<(), Fail> {
-    let values = values(rt.alloc())?;
-    for (ask, marks) in &rows::SINGLES {
-        let places = rows::OPERANDS.iter().chain(&rows::LISTS);
-        for (place, mark) in places.zip(marks.split_whitespace()) {
-            let operand = copies(rt.alloc(), &values, &[*place])?;
-            let outcome = answer(rt.alloc(), *ask, operand.as_slice())?;
-            assert!(rt; agrees(&values, &outcome, mark), "{ask:?} of {place}");
-        }
-    }
-    Ok(())
-}
-
-#[test]
-fn parts_are_as_in_python(rt: HostRuntime) -> Result<(), Fail> {
-    let values = values(rt.alloc())?;
-    for (place, rows) in &rows::PARTS {
-        for (low, marks) in rows::BOUNDS.iter().zip(*rows) {
-            for (high, mark) in rows::BOUNDS.iter().zip(marks.split_whitespace()) {
-                let whole = copies(rt.alloc(), &values, &[*place])?;
-                let by = Bounds {
-                    low: bound(rt.alloc(), &values, *low)?,
-                    high: bound(rt.alloc(), &values, *high)?,
-                };
-                for whole in whole.as_slice() {
-                    let outcome = slice(rt.alloc(), whole, &by, LINE)?;
-                    assert!(rt;
-                        agrees(&values, &outcome, mark),
-                        "{place} from {low} to {high}"
-                    );
-                }
-            }
-        }
-    }
+    assert_eq!(rt; asked, rows::ASKED);
     Ok(())
 }

@@ -1,4 +1,4 @@
-use Rattle.pyd_ops.proofs.Parts.{operations_keep_limits}
+use Rattle.pyd_ops.proofs.Keeps.{operations_keep_limits}
 use Rattle.pyd_ops.proofs.laws.operations_keep_limits.Goals as goal
 
 pub returns : goal.returns

@@ -1,9 +1,0 @@
--- The bits of both numbers in 128 bits are their bits.
-use Rattle.std.proofs.Common.{◌∙◌, sym, ap, Some}
-use Rattle.pyd_ops.proofs.Limits.{fits}
-use Rattle.pyd_ops.proofs.TwosComplement.{and_is, bits_and_fits}
-use Rattle.pyd_ops.proofs.arithmetic.common_bits.Goals as goal
-
-pub returns : goal.returns
-returns c =
-    ap Some (and_is c.args.m c.args.n c.ranges.m c.ranges.n) ∙ sym (fits _ (bits_and_fits c.args.m c.args.n c.ranges.m c.ranges.n))

@@ -1,9 +1,0 @@
--- The bits of both numbers in 128 bits are their bits.
-use Rattle.std.proofs.Common.{◌∙◌, sym, ap, Some}
-use Rattle.pyd_ops.proofs.Limits.{fits}
-use Rattle.pyd_ops.proofs.TwosComplement.{xor_is, bits_xor_fits}
-use Rattle.pyd_ops.proofs.arithmetic.differing_bits.Goals as goal
-
-pub returns : goal.returns
-returns c =
-    ap Some (xor_is c.args.m c.args.n c.ranges.m c.ranges.n) ∙ sym (fits _ (bits_xor_fits c.args.m c.args.n c.ranges.m c.ranges.n))

@@ -1,8 +1,0 @@
--- The best so far among those that are left gives the best of all.
-use Rattle.std.proofs.Common.{◌≡◌, drop}
-use Rattle.pyd_ops.specs.Calls.{best, beating}
-use Rattle.pyd_ops.proofs.calls.choose_best.Given as goal
-
-abbrev pub invariant-loop-candidate : goal.invariant-loop-candidate
-invariant-loop-candidate l =
-    best (beating l.which) l.best (drop l.candidate-index l.rest) l.line ≡ best (beating l.which) l.first l.rest l.line

@@ -1,0 +1,42 @@
+//! The caller that CALLING.md shows.
+ghost use Rattle.pyd_value.specs.declared.operator.BinOp.TheVariants.{Add};
+ghost use Rattle.pyd_value.specs.declared.operator.CmpOp.TheVariants.{Lt};
+ghost use Rattle.pyd_ops.specs.Answer.{Answers};
+ghost use Rattle.pyd_ops.specs.Calls.{and_then};
+ghost use Rattle.pyd_ops.specs.Comparing.{compare};
+ghost use Rattle.pyd_ops.specs.Operators.{binary};
+
+use super::LINE;
+use crate::{binary, compare};
+use pyd_value::{BinOp, CmpOp, NoMemory, Outcome, Value};
+use std::alloc::Global;
+use std::test::Fail;
+
+/// The value of `a + b < c`, or the first fault.
+fn sum_is_less(
+    alloc: Global,
+    a: &Value,
+    b: &Value,
+    c: &Value,
+    line: u32,
+) -> Result<Outcome, NoMemory>
+    ensures { Answers result (and_then (binary Add a.now b.now line) (λ v. compare Lt v c.now line)) }
+{
+    match binary(alloc, BinOp::Add, a, b, line)? {
+        Outcome::Ok(sum) => {
+            let less = compare(CmpOp::Lt, &sum, c, line);
+            drop(sum);
+            Ok(less)
+        }
+        Outcome::Fault(fault) => Ok(Outcome::Fault(fault)),
+    }
+}
+
+#[test]
+fn a_caller_is_proved_by_the_clauses(rt: HostRuntime) -> Result<(), Fail> {
+    let (one, two) = (Value::Int(1), Value::Bool(true));
+    let three = Value::Int(3);
+    let less = sum_is_less(rt.alloc(), &one, &two, &three, LINE)?;
+    assert_eq!(rt; less, Outcome::Ok(Value::Bool(true)));
+    Ok(())
+}
