@@ -13,18 +13,12 @@ use std::alloc::Global;
 use std::test::Fail;
 
 /// The value of `a + b < c`, or the first fault.
-fn sum_is_less(
-    alloc: Global,
-    a: &Value,
-    b: &Value,
-    c: &Value,
-    line: u32,
-) -> Result<Outcome, NoMemory>
-    ensures { Answers result (and_then (binary Add a.now b.now line) (λ v. compare Lt v c.now line)) }
+fn sum_is_less(alloc: Global, a: &Value, b: &Value, c: &Value, at: u32) -> Result<Outcome, NoMemory>
+    ensures { Answers result (and_then (binary Add a.now b.now at) (λ v. compare Lt v c.now at)) }
 {
-    match binary(alloc, BinOp::Add, a, b, line)? {
+    match binary(alloc, BinOp::Add, a, b, at)? {
         Outcome::Ok(sum) => {
-            let less = compare(CmpOp::Lt, &sum, c, line);
+            let less = compare(CmpOp::Lt, &sum, c, at);
             drop(sum);
             Ok(less)
         }

@@ -4,8 +4,8 @@ use super::LINE;
 use pyd_value::{BinOp, CmpOp, Fault, Kind, Limit, List, NoMemory, Text, Value, try_copy};
 use std::alloc::Global;
 
-/// The value of a word: an integer, `None`, `False` or `True`, a text behind a quote, the places of a
-/// tuple's members behind a bracket, or behind `#` how deep the empty tuple nests with its tuples.
+/// The value of a word: an integer, `None`, `False` or `True`, a text behind a quote, the places of
+/// a tuple's members behind a bracket, or behind `#` how deep the empty tuple nests with its tuples.
 pub(crate) fn value(alloc: Global, values: &List<Value>, word: &str) -> Result<Value, NoMemory> {
     if let Some(text) = word.strip_prefix('\'') {
         return Ok(Value::Text(Text::of(alloc, text)?));

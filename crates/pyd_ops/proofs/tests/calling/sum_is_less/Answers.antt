@@ -11,6 +11,6 @@ use Rattle.pyd_ops.proofs.tests.calling.sum_is_less.Goals as goal
 
 pub returns-in-Ok : goal.returns-in-Ok
 returns-in-Ok c =
-    let sum = binary Add c.args.a.now c.args.b.now c.args.line in
+    let sum = binary Add c.args.a.now c.args.b.now c.args.at in
     c.compare-less.ensures
-    ∙ ap (λ r. outcome_of (and_then r (λ v. compare Lt v c.args.c.now c.args.line))) (sym (value_of sum c.in-Ok.sum (sym c.in-Ok.is ∙ c.in_ok-sum.ensures)))
+    ∙ ap (λ r. outcome_of (and_then r (λ v. compare Lt v c.args.c.now c.args.at))) (sym (value_of sum c.in-Ok.sum (sym c.in-Ok.is ∙ c.in_ok-sum.ensures)))
