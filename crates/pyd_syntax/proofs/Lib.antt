@@ -1,0 +1,12 @@
+pub mod Ahead
+pub mod Check
+pub mod Valid
+pub mod Choice
+pub mod Makes
+pub mod Turns
+pub mod Codes
+pub mod Entries
+pub mod Hopeless
+pub mod Ends
+pub mod Loop
+pub mod Unique
