@@ -1,0 +1,4 @@
+pub mod Digits
+pub mod Names
+pub mod Acts
+pub mod Lines

@@ -1,0 +1,8 @@
+use Rattle.pyd_trace.proofs.Lines.{one_first, one_answer}
+use Rattle.pyd_trace.proofs.laws.bytes_have_one_answer.Goals as goal
+
+pub returns-clause-line : goal.returns-clause-line
+returns-clause-line c = one_first
+
+pub returns-clause-answer : goal.returns-clause-answer
+returns-clause-answer c = one_answer
