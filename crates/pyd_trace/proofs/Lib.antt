@@ -2,3 +2,4 @@ pub mod Digits
 pub mod Names
 pub mod Acts
 pub mod Lines
+pub mod Deciding

@@ -56,7 +56,7 @@ some_bytes (x ∷ xs) ys y e = absurd (omega (arith, ap length e))
 pub no_empty_line : OtherLine []
 no_empty_line event more is e = some_bytes (decimal event.by) (decimal event.nth ++ behind_nth event.act more) 32 (sym (e ∙ line-pieces event more))
 
-lines-next : (e : Event) (es : List Event) (r : List ℕ) → flat_map line_text (e ∷ es) ++ r ≡ line_text e ++ (flat_map line_text es ++ r)
+pub lines-next : (e : Event) (es : List Event) (r : List ℕ) → flat_map line_text (e ∷ es) ++ r ≡ line_text e ++ (flat_map line_text es ++ r)
 lines-next e es r = append_assoc (line_text e) (flat_map line_text es) r
 
 -- lines in front of a rest that begins with none are determined
@@ -114,7 +114,8 @@ line_shortens rest more event cut =
     let whole : rest ≡ decimal event.by ++ (32 ∷ (line_end event ++ more)) = cut.whole ∙ line-pieces event more ∙ ap (λ bs. decimal event.by ++ (32 ∷ bs)) (sym (append_assoc (decimal event.nth) (32 ∷ (act_text event.act ++ 10 ∷ [])) more)) in
     omega (arith, longer (decimal event.by) (line_end event) more 32, ap length whole)
 
-begins : (n : ℕ) (bytes prefix more : List ℕ) → pointwise eqb (take n bytes) prefix ≡ true → more ≡ drop n bytes → bytes ≡ prefix ++ more
+-- a prefix that was found in front
+pub begins : (n : ℕ) (bytes prefix more : List ℕ) → pointwise eqb (take n bytes) prefix ≡ true → more ≡ drop n bytes → bytes ≡ prefix ++ more
 begins n bytes prefix more found behind =
     sym (take-append-drop n bytes) ∙ ap (λ bs. bs ++ drop n bytes) ((slice_eq-Decides Decides-eqb (take n bytes) prefix _ refl).0 found) ∙ ap (λ bs. prefix ++ bs) (sym behind)
 
@@ -122,11 +123,15 @@ begins n bytes prefix more found behind =
 pub cuts_line : (n : ℕ) (bytes prefix more : List ℕ) (event : Event) → IsEvent event → prefix ≡ line_text event → pointwise eqb (take n bytes) prefix ≡ true → more ≡ drop n bytes → CutsLine bytes event more
 cuts_line n bytes prefix more event is line found behind = record { event_is = is; whole = begins n bytes prefix more found behind ∙ ap (λ bs. bs ++ more) line }
 
--- where it wasn't, no event's line stands there
-pub no_line : (n : ℕ) (bytes prefix : List ℕ) (guess : Event) → n ≡ length prefix → prefix ≡ line_text guess → pointwise eqb (take n bytes) prefix ≡ false
+-- where it wasn't found, it doesn't stand there
+pub no_front : (bytes prefix more : List ℕ) → pointwise eqb (take (length prefix) bytes) prefix ≡ false → bytes ≢ prefix ++ more
+no_front bytes prefix more other whole =
+    let front : take (length prefix) bytes ≡ prefix = ap (take (length prefix)) whole ∙ take-append_seam prefix more in
+    let both : true ≡ false = sym ((slice_eq-Decides Decides-eqb (take (length prefix) bytes) prefix _ refl).1 front) ∙ other in cc
+
+-- where the guess's line wasn't found, no event's stands there
+pub no_line : (bytes prefix : List ℕ) (guess : Event) → prefix ≡ line_text guess → pointwise eqb (take (length prefix) bytes) prefix ≡ false
     → ((event : Event) (more : List ℕ) → IsEvent event → bytes ≡ line_text event ++ more → Some guess ≡ Some event) → OtherLine bytes
-no_line n bytes prefix guess size line other only event more is whole =
+no_line bytes prefix guess line other only event more is whole =
     let same : guess ≡ event = cc (only event more is whole) in
-    let front : take n bytes ≡ prefix = ap (λ k. take k bytes) size ∙ ap (take (length prefix)) (whole ∙ ap (λ e. line_text e ++ more) (sym same) ∙ ap (λ bs. bs ++ more) (sym line))
-    ∙ take-append_seam prefix more in
-    let both : true ≡ false = sym ((slice_eq-Decides Decides-eqb (take n bytes) prefix _ refl).1 front) ∙ other in cc
+    no_front bytes prefix more other (whole ∙ ap (λ e. line_text e ++ more) (sym same) ∙ ap (λ bs. bs ++ more) (sym line))

@@ -1,5 +1,5 @@
 -- What the text of a trace determines.
-use Rattle.std.specs.Prelude.{◌≡◌, ℕ, ◌<◌, ◌^◌, List, length, slice_index}
+use Rattle.std.specs.Prelude.{◌≡◌, ℕ, ◌<◌, ◌^◌, List, length, slice_index, ◌⊎◌}
 use Rattle.std.specs.Fmt.{decimal}
 use Rattle.std.specs.Str.Parse.{IsNumeral, digits_value}
 use Rattle.pyd_board.specs.declared.event.Event.{Event}
@@ -23,6 +23,10 @@ OneTrace = (bytes : List ℕ) (events others : List Event) → IsTrace bytes eve
 -- one line at most is the first that is no event's
 abbrev pub OneFirst : Type 0
 OneFirst = (bytes : List ℕ) (number other : ℕ) → FirstOther bytes number → FirstOther bytes other → number ≡ other
+
+-- bytes are another version's, a trace, or have a first line that is no event's
+abbrev pub SomeAnswer : Type 0
+SomeAnswer = (bytes : List ℕ) → OtherVersion bytes ⊎ (((events : List Event) × IsTrace bytes events) ⊎ ((number : ℕ) × FirstOther bytes number))
 
 -- bytes aren't both a trace and at fault, nor at fault in two ways
 pub record OneAnswer : Type 0 where

@@ -1,5 +1,5 @@
 //! What the text of a trace determines. The functions have empty bodies, and their contracts are the laws.
-ghost use Rattle.pyd_trace.specs.Laws.{OneDecimal, OneTrace, OneFirst, OneAnswer};
+ghost use Rattle.pyd_trace.specs.Laws.{OneDecimal, OneTrace, OneFirst, OneAnswer, SomeAnswer};
 
 /// A number of a trace is its digits without a leading zero, and is spelled in no other way.
 pub fn a_number_has_one_spelling()
@@ -11,8 +11,9 @@ pub fn a_trace_has_one_reading()
     ensures { OneTrace }
 {}
 
-/// Bytes have one answer: the events, another version, or the first line that is no event's.
+/// Bytes have an answer and no second one: the events, another version, or the first line that is no event's.
 pub fn bytes_have_one_answer()
+    ensures some { SomeAnswer }
     ensures line { OneFirst }
     ensures answer { OneAnswer }
 {}

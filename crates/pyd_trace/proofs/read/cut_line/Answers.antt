@@ -1,4 +1,4 @@
-use Rattle.std.proofs.Common.{◌∙◌, ◌++◌, ap, refl}
+use Rattle.std.proofs.Common.{◌∙◌, ◌++◌, ap}
 use Rattle.pyd_trace.specs.Text.{line_text}
 use Rattle.pyd_trace.proofs.Lines.{cuts_line, no_line}
 use Rattle.pyd_trace.proofs.read.cut_line.Goals as goal
@@ -11,6 +11,6 @@ returns-in-Some-strip_prefix-clause-found c =
 
 pub returns-in-None-clause-none : goal.returns-in-None-clause-none
 returns-in-None-clause-none c none =
-    no_line _ c.args.bytes.now c.as_slice.result.now c.in-Some.event refl
+    no_line c.args.bytes.now c.as_slice.result.now c.in-Some.event
     (c.as_slice.ensures.value ∙ c.in_ok-push_line.ensures ∙ ap (λ bs. bs ++ line_text c.in-Some.event) c.clear.ensures.items) c.in-None.ensures.cases
     c.in-Some.ensures.value
