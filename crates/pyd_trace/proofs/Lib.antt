@@ -3,3 +3,4 @@ pub mod Names
 pub mod Acts
 pub mod Lines
 pub mod Deciding
+pub mod Newlines

@@ -6,7 +6,10 @@ mod laws;
 mod read;
 mod write;
 
-pub use laws::{a_number_has_one_spelling, a_trace_has_one_reading, bytes_have_one_answer};
+pub use laws::{
+    a_line_has_one_newline, a_number_has_one_spelling, a_trace_has_one_reading,
+    bytes_have_one_answer,
+};
 pub use read::{TraceStop, read_trace};
 pub use write::trace_text;
 
