@@ -60,10 +60,12 @@ spelled bytes t = characters (spelling_of bytes t.from t.to)
 abbrev pub text_in : List ℕ → Token → List ℕ
 text_in bytes t = chars (encode_utf8_all (string_value (spelled bytes t)))
 
+-- the token that a piece is
 abbrev pub token_of : Piece → Token
 token_of (piece.Leaf t) = t
 token_of p = no_token
 
+-- the kind of a piece's token
 abbrev pub kind_of : Piece → TokenKind
 kind_of p = (token_of p).kind
 
@@ -71,6 +73,7 @@ kind_of p = (token_of p).kind
 abbrev pub name_in : List ℕ → Piece → List ℕ
 name_in bytes p = spelled bytes (token_of p)
 
+-- the expression that a piece is
 abbrev pub expr_of : Piece → Expr
 expr_of (piece.Expr e) = e
 expr_of p = no_expr
@@ -94,34 +97,42 @@ optional_tuple (piece.Expr e) = Some e
 optional_tuple (piece.Many es) = Some (expr.Tuple es)
 optional_tuple p = None
 
+-- the same, where there is one
 abbrev pub optional_expr : Piece → Option Expr
 optional_expr (piece.Expr e) = Some e
 optional_expr p = None
 
+-- the operators with their operands
 abbrev pub links_of : Piece → List (BinOp × Expr)
 links_of (piece.Links ls) = ls
 links_of p = []
 
+-- the comparison operators with their operands
 abbrev pub compares_of : Piece → List (CmpOp × Expr)
 compares_of (piece.Compares ls) = ls
 compares_of p = []
 
+-- the index or slice
 abbrev pub suffix_of : Piece → Suffix
 suffix_of (piece.Suffix s) = s
 suffix_of p = suffix.Index no_expr
 
+-- the indexes and slices
 abbrev pub suffixes_of : Piece → List Suffix
 suffixes_of (piece.Suffixes ss) = ss
 suffixes_of p = []
 
+-- the statement
 abbrev pub stmt_of : Piece → Stmt
 stmt_of (piece.Stmt s) = s
 stmt_of p = no_stmt
 
+-- the statements
 abbrev pub stmts_of : Piece → List Stmt
 stmts_of (piece.Stmts ss) = ss
 stmts_of p = []
 
+-- the suite
 abbrev pub suite_of : Piece → Block
 suite_of (piece.Suite b) = b
 suite_of p = block (no_stmt ∷ [])
@@ -131,30 +142,37 @@ abbrev pub optional_suite : Piece → Option Block
 optional_suite (piece.Suite b) = Some b
 optional_suite p = None
 
+-- the arms
 abbrev pub arms_of : Piece → List Arm
 arms_of (piece.Arms xs) = xs
 arms_of p = []
 
+-- the names
 abbrev pub names_of : Piece → List (List ℕ)
 names_of (piece.Names ns) = ns
 names_of p = []
 
+-- the parameters, each with its line
 abbrev pub params_of : Piece → List (ℕ × List ℕ)
 params_of (piece.Params ps) = ps
 params_of p = []
 
+-- the decorators, each with its line
 abbrev pub marks_of : Piece → List (ℕ × List ℕ)
 marks_of (piece.Def ms f) = ms
 marks_of p = []
 
+-- the function
 abbrev pub func_of : Piece → Func
 func_of (piece.Def ms f) = f
 func_of p = no_func
 
+-- the item
 abbrev pub item_of : Piece → Item
 item_of (piece.Item i) = i
 item_of p = item.Stmt no_stmt
 
+-- the items
 abbrev pub items_of : Piece → List Item
 items_of (piece.Items is) = is
 items_of p = []

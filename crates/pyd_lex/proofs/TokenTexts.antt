@@ -1,4 +1,4 @@
--- a text that means a token spells one of its kind
+-- A text that means a token spells one of its kind.
 use Rattle.std.proofs.Common.{◌≡◌, ℕ, Bool, true, false, ◌==◌, [], ◌∷◌, Option, Some, None, Result, Ok, Err, refl, subst, if◌then◌else◌}
 use Rattle.pyd_lex.specs.declared.fault.Flaw.{Flaw}
 use Rattle.pyd_lex.specs.declared.fault.Flaw.TheVariants.{BadNumber}
