@@ -1,9 +1,9 @@
 -- An expansion made by its action is one step back.
-use Rattle.std.proofs.Common.{◌≡◌, ℕ, ◌<◌, List, [], ◌∷◌, length, drop, refl, sym, ap, ap₂, subst, ◌∙◌}
+use Rattle.std.proofs.Common.{◌≡◌, ℕ, ◌<◌, List, ◌∷◌, length, drop, refl, sym, ap, ap₂, subst, ◌∙◌}
 use Rattle.std.proofs.lemmas.Bool.{and_parts, eqb-true}
 use Rattle.pyd_lex.specs.declared.token.Token.{Token}
 use Rattle.pyd_syntax.specs.declared.step.Step.{Step}
-use Rattle.pyd_syntax.specs.declared.step.Step.TheVariants.{Shift, Expand}
+use Rattle.pyd_syntax.specs.declared.step.Step.TheVariants.{Expand}
 use Rattle.pyd_grammar.specs.declared.piece.Piece.{Piece}
 use Rattle.pyd_grammar.specs.Forms.{Action, apply, arity, does, symbols}
 use Rattle.pyd_grammar.specs.Productions.{grammar}

@@ -1,5 +1,5 @@
 -- What the steps are read as from the back is what their derivation is read as.
-use Rattle.std.proofs.Common.{◌≡◌, ℕ, ◌+◌, ◌<◌, suc, zero, List, [], ◌∷◌, ◌++◌, get_or, drop, length, map, Bool, true, false, cond, eqb, ◌&&◌, refl, sym, ap, ap₂, subst, ◌∙◌, arith, All, append-nil}
+use Rattle.std.proofs.Common.{◌≡◌, ℕ, ◌+◌, ◌<◌, suc, zero, List, [], ◌∷◌, ◌++◌, get_or, length, Bool, true, false, cond, refl, sym, ap, ap₂, subst, ◌∙◌, arith, All}
 use Rattle.std.proofs.lemmas.Bool.{and_parts, eqb-true}
 use Rattle.std.proofs.lemmas.List.Elements.{All-nil, All-cons}
 use Rattle.pyd_lex.specs.declared.token.Token.{Token}
@@ -16,7 +16,7 @@ use Rattle.pyd_grammar.specs.Forms.{Form, none, apply, symbols, does, production
 use Rattle.pyd_grammar.specs.Productions.{grammar}
 use Rattle.pyd_grammar.specs.Derivation.{Trees, End, Token_then, Production_then, leaves, Derive, line_of, values, steps_of}
 use Rattle.pyd_grammar.specs.Reading.{expanded, read_back, shifts, IsKnown}
-use Rattle.pyd_grammar.proofs.Forms.{append_assoc, drop_front, apply_front, apply_line, is_lined, has_token, fits, all_fit, fit_at}
+use Rattle.pyd_grammar.proofs.Forms.{append_assoc, drop_front, apply_front, apply_line, has_token, all_fit, fit_at}
 
 -- the production of a form
 production_at : (g : List Form) (p : ℕ) → get_or (productions g) p no_production ≡ (get_or g p none).production

@@ -5,16 +5,15 @@ use Rattle.pyd_syntax.specs.declared.step.Step.{Step}
 use Rattle.pyd_syntax.specs.Grammar.{Production, start}
 use Rattle.pyd_syntax.specs.Terminals.{terminals}
 use Rattle.pyd_syntax.specs.Derivation.{Derives}
-use Rattle.pyd_syntax.specs.Script.{IsDerivation, IsScript}
+use Rattle.pyd_syntax.specs.Script.{IsDerivation}
 use Rattle.pyd_syntax.specs.Laws.{OneDerivation}
-use Rattle.pyd_tree.specs.declared.file.File.{File}
 use Rattle.pyd_grammar.specs.declared.piece.Piece.{Piece}
 use Rattle.pyd_grammar.specs.Pieces.{part}
 use Rattle.pyd_grammar.specs.Forms.{productions}
 use Rattle.pyd_grammar.specs.Productions.{grammar}
 use Rattle.pyd_grammar.specs.Derivation.{Trees, Derive, leaves, values, steps_of}
 use Rattle.pyd_grammar.specs.Reading.{read_back}
-use Rattle.pyd_grammar.specs.Files.{IsFile, file_of}
+use Rattle.pyd_grammar.specs.Files.{file_of}
 use Rattle.pyd_grammar.specs.Laws.{OneFile, FilesAreScripts}
 use Rattle.pyd_grammar.proofs.Law.{read_law, steps_derive, grammar_fits}
 use Rattle.pyd_grammar.proofs.Whole.{tie, file_read}

@@ -6,7 +6,7 @@ use Rattle.pyd_lex.specs.declared.token.Token.{Token}
 use Rattle.pyd_lex.specs.Strings.{string_value}
 use Rattle.pyd_lex.specs.Texts.{spelling_of, IsTextOf}
 use Rattle.pyd_value.specs.declared.memory.NoMemory.{NoMemory}
-use Rattle.pyd_grammar.specs.Pieces.{characters, spelled, text_in}
+use Rattle.pyd_grammar.specs.Pieces.{characters, text_in}
 
 good : (bytes : List ℕ) → IsUtf8 bytes → characters bytes ≡ chars bytes
 good bytes u = ap (λ (b : Bool). cond b (chars bytes) []) (is_utf8-from_IsUtf8 bytes u)

@@ -1,9 +1,7 @@
 -- What each production makes of its parts.
 use Rattle.std.specs.Prelude.{ℕ, List, [], ◌∷◌, true, false, Option, Some, None, option_map, option_and_then, unwrap_or}
-use Rattle.pyd_lex.specs.declared.token.Token.{Token}
 use Rattle.pyd_lex.specs.declared.token.TokenKind.{TokenKind}
 use Rattle.pyd_lex.specs.declared.token.TokenKind.TheVariants as kind
-use Rattle.pyd_lex.specs.declared.word.Word.{Word}
 use Rattle.pyd_lex.specs.declared.word.Word.TheVariants as word
 use Rattle.pyd_value.specs.declared.value.Value.{Value}
 use Rattle.pyd_value.specs.declared.value.Value.TheVariants as value

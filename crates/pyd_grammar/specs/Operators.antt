@@ -3,7 +3,6 @@ use Rattle.pyd_lex.specs.declared.token.TokenKind.{TokenKind}
 use Rattle.pyd_lex.specs.declared.token.TokenKind.TheVariants as kind
 use Rattle.pyd_lex.specs.declared.mark.Mark.{Mark}
 use Rattle.pyd_lex.specs.declared.mark.Mark.TheVariants as mark
-use Rattle.pyd_lex.specs.declared.word.Word.TheVariants as word
 use Rattle.pyd_value.specs.declared.operator.BinOp.{BinOp}
 use Rattle.pyd_value.specs.declared.operator.BinOp.TheVariants as bin
 use Rattle.pyd_value.specs.declared.operator.CmpOp.{CmpOp}

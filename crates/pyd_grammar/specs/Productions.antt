@@ -1,12 +1,11 @@
 -- The grammar, each rule with what it may stand for and what that makes of its parts. Above the productions of a rule
 -- stands its line in the grammar of docs/FORMATS.md, where braces repeat, brackets are optional and a bar chooses; what
 -- repeats or is optional is a rule of its own here.
-use Rattle.std.specs.Prelude.{ℕ, List, [], ◌∷◌, get_or, Option, Some, None}
-use Rattle.pyd_syntax.specs.declared.symbol.Symbol.{Symbol}
+use Rattle.std.specs.Prelude.{List, [], ◌∷◌}
 use Rattle.pyd_syntax.specs.declared.symbol.Symbol.TheVariants.{Terminal as T, Rule as R}
 use Rattle.pyd_syntax.specs.declared.terminal.TheConstants.{END, NEWLINE, INDENT, DEDENT, NAME, INT, STR, CONSTANT, FROM, IMPORT, DEF, IF, ELIF, ELSE, WHILE, FOR, IN, PASS, BREAK, CONTINUE, RETURN, ASSERT, OR, AND, NOT, LEFT_PAREN, RIGHT_PAREN, LEFT_BRACKET, RIGHT_BRACKET, COMMA, COLON, AT, ASSIGN, AUG, CMP, BAR, CARET, AMPERSAND, SHIFT, SIGN, TIMES, POWER}
 use Rattle.pyd_syntax.specs.Rules.{file, items, item, import, names_rest, def, params, params_rest, suite, stmts, stmt, if, elifs, else, while, for, targets, targets_rest, simple, assignment, message, optional_tests, tests, tests_rest, test, conditional, or, or_rest, and, and_rest, not, compare, compare_rest, bits, bits_rest, xor, xor_rest, band, band_rest, shift, shift_rest, arith, arith_rest, term, term_rest, factor, power, exponent, suffixed, suffixes, sub, bound, optional_test, atom, arguments}
-use Rattle.pyd_syntax.specs.Grammar.{Production, ◌⟶◌}
+use Rattle.pyd_syntax.specs.Grammar.{◌⟶◌}
 use Rattle.pyd_grammar.specs.declared.piece.Piece.TheVariants as piece
 use Rattle.pyd_grammar.specs.Forms.{Form, Of0, Of1, Of2, Of3, Of4, Of6, At1, At2, At3, At4, At5, At6, ◌makes◌, ◌counts◌}
 use Rattle.pyd_grammar.specs.Actions.{as_and, as_arguments, as_assert, as_assign, as_augment, as_bound, as_break, as_chain, as_comma, as_compare, as_compared, as_condition, as_constant, as_continue, as_decorated, as_def, as_elifs, as_end, as_for, as_function_item, as_group, as_if, as_import, as_int, as_items, as_link, as_member, as_more_targets, as_name, as_names, as_not, as_not_in, as_or, as_params, as_pass, as_power, as_return, as_simple, as_statement_item, as_stmts, as_sub, as_suffix, as_suffixed, as_suite, as_targets, as_test, as_tests, as_text, as_unary, as_upper, as_while, same, second}

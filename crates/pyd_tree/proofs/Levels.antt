@@ -1,5 +1,5 @@
 -- The nesting of each kind of expression.
-use Rattle.std.proofs.Common.{◌≡◌, ℕ, ◌+◌, max, List, [], ◌∷◌, map, Option, Some, None, refl, ap, rules}
+use Rattle.std.proofs.Common.{◌≡◌, ℕ, ◌+◌, max, List, [], ◌∷◌, map, Option, refl, ap, rules}
 use Rattle.std.specs.Prelude.{option_map}
 use Rattle.pyd_value.specs.Size.{greatest}
 use Rattle.pyd_value.specs.declared.value.Value.{Value}

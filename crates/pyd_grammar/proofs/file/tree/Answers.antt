@@ -1,4 +1,4 @@
-use Rattle.std.proofs.Common.{◌≡◌, ◌∙◌, ap, List}
+use Rattle.std.proofs.Common.{◌∙◌, ap, List}
 use Rattle.pyd_tree.specs.declared.file.Item.{Item}
 use Rattle.pyd_grammar.proofs.Whole.{file_read, may_read}
 use Rattle.pyd_grammar.proofs.file.tree.Goals as goal

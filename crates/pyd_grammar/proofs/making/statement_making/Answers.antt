@@ -1,4 +1,4 @@
-use Rattle.std.proofs.Common.{◌≡◌, ℕ, ap, sym, arith}
+use Rattle.std.proofs.Common.{◌≡◌, ap, sym, arith}
 use Rattle.pyd_grammar.specs.Forms.{does, header}
 use Rattle.pyd_grammar.specs.Productions.{grammar}
 use Rattle.pyd_grammar.proofs.making.statement_making.Goals as goal

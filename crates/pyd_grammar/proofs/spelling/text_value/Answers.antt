@@ -1,4 +1,4 @@
-use Rattle.std.proofs.Common.{◌≡◌, sym}
+use Rattle.std.proofs.Common.{sym}
 use Rattle.pyd_grammar.proofs.Utf8.{text_good, text_bad, same_utf8}
 use Rattle.pyd_grammar.proofs.spelling.text_value.Goals as goal
 
