@@ -3,6 +3,7 @@ use Rattle.std.proofs.Common.{◌≡◌, ℕ, ℤ, pos, negsuc, ◌+◌, ◌<◌
 use Rattle.std.proofs.lemmas.Bool.{lt-ltb, ltb-true, false_from_ne_true}
 use Rattle.std.proofs.lemmas.List.{drop_all}
 use mir.Syntax.{w128}
+use Rattle.pyd_value.specs.Limits.{integer_bound}
 use Rattle.pyd_value.specs.declared.value.Value.{Value}
 use Rattle.pyd_value.specs.declared.value.Value.TheVariants.{Int}
 use Rattle.pyd_value.specs.declared.fault.Fault.{Fault}
@@ -21,13 +22,13 @@ use Rattle.pyd_core.specs.Outcome.{in_line, meanings, Adds, IsSilent, SameOutcom
 
 -- what fits 128 bits is within the limit
 is_within-fits : (z : ℤ) → FitsSigned w128 z → is_within z ≡ true
-is_within-fits (pos n) fits = lt-ltb n (2 ^ 127) fits.sfits
-is_within-fits (negsuc n) fits = lt-ltb n (2 ^ 127) fits.sfits
+is_within-fits (pos n) fits = lt-ltb n integer_bound fits.sfits
+is_within-fits (negsuc n) fits = lt-ltb n integer_bound fits.sfits
 
 -- and what doesn't is not
 is_within-wide : (z : ℤ) → ¬ FitsSigned w128 z → is_within z ≡ false
-is_within-wide (pos n) wide = false_from_ne_true _ (λ t. wide (record { sfits = ltb-true n (2 ^ 127) t }))
-is_within-wide (negsuc n) wide = false_from_ne_true _ (λ t. wide (record { sfits = ltb-true n (2 ^ 127) t }))
+is_within-wide (pos n) wide = false_from_ne_true _ (λ t. wide (record { sfits = ltb-true n integer_bound t }))
+is_within-wide (negsuc n) wide = false_from_ne_true _ (λ t. wide (record { sfits = ltb-true n integer_bound t }))
 
 integer-fits : (z : ℤ) (line : ℕ) → FitsSigned w128 z → integer z line ≡ Ok (Int z)
 integer-fits z line fits = rw (is_within-fits z fits) refl

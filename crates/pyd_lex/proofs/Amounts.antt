@@ -1,10 +1,10 @@
--- the value of digits never falls
+-- The value of digits never falls.
 use Rattle.std.proofs.Common.{◌≡◌, ℕ, zero, suc, ◌+◌, ◌*◌, ◌≤◌, Bool, true, false, ◌==◌, [], ◌∷◌, length, drop, get_or, Option, None, Err, if◌then◌else◌, refl, sym, ap, subst, ◌∙◌, arith, inl, inr}
 use Rattle.std.proofs.lemmas.Bool.{cases_Bool}
 use Rattle.std.proofs.lemmas.Bool.Decides.{nat_tests}
 use Rattle.std.specs.Char.{digit_value}
 use Rattle.pyd_lex.specs.Words.{Text}
-use Rattle.pyd_lex.specs.Numbers.{amount, narrow, number, radix, digits, is_digits, checked}
+use Rattle.pyd_lex.specs.Numbers.{amount, bounded, number, radix, digits, is_digits, checked}
 use Rattle.pyd_lex.specs.declared.fault.Flaw.TheVariants.{BadNumber}
 
 pub amount_first : (base n x : ℕ) (z : Text) → 1 ≤ length z → x ≡ get_or z 0 x → (x ≡ 95 → ⊥) → amount base n z ≡ amount base (n * base + digit_value x) (drop 1 z)
@@ -28,10 +28,10 @@ amount_grows base n (c ∷ z) h =
           rw f (omega arith)
     ]
 
-wide : (n m : ℕ) → n ≤ m → narrow n ≡ None → narrow m ≡ None
+wide : (n m : ℕ) → n ≤ m → bounded n ≡ None → bounded m ≡ None
 wide n m l h = grind (arith, nat_tests)
 
-pub wide_amount : (base n : ℕ) (z : Text) → 1 ≤ base → narrow n ≡ None → narrow (amount base n z) ≡ None
+pub wide_amount : (base n : ℕ) (z : Text) → 1 ≤ base → bounded n ≡ None → bounded (amount base n z) ≡ None
 wide_amount base n z h w = wide n (amount base n z) (amount_grows base n z h) w
 
 -- ---- a number by its parts
@@ -40,13 +40,13 @@ pub not_number : (z ds : Text) (base : ℕ) → base ≡ radix z → ds ≡ digi
 unfolding number
 not_number z ds base b d h =
     let e : is_digits (radix z) (digits z) ≡ false = (λ i. is_digits (sym b i) (sym d i)) ∙ h in
-    ap (λ t. if t then checked (radix z) z (narrow (amount (radix z) 0 (digits z))) else Err BadNumber) e
+    ap (λ t. if t then checked (radix z) z (bounded (amount (radix z) 0 (digits z))) else Err BadNumber) e
 
-pub a_number : (z ds : Text) (base : ℕ) (a : Option ℕ) → base ≡ radix z → ds ≡ digits z → is_digits base ds ≡ true → a ≡ narrow (amount base 0 ds) → number z ≡ checked base z a
+pub a_number : (z ds : Text) (base : ℕ) (a : Option ℕ) → base ≡ radix z → ds ≡ digits z → is_digits base ds ≡ true → a ≡ bounded (amount base 0 ds) → number z ≡ checked base z a
 unfolding number
 a_number z ds base a b d h n =
     let e : is_digits (radix z) (digits z) ≡ true = (λ i. is_digits (sym b i) (sym d i)) ∙ h in
-    ap (λ t. if t then checked (radix z) z (narrow (amount (radix z) 0 (digits z))) else Err BadNumber) e ∙ (λ i. checked (sym b i) z (narrow (amount (sym b i) 0 (sym d i)))) ∙ ap (checked base z) (sym n)
+    ap (λ t. if t then checked (radix z) z (bounded (amount (radix z) 0 (digits z))) else Err BadNumber) e ∙ (λ i. checked (sym b i) z (bounded (amount (sym b i) 0 (sym d i)))) ∙ ap (checked base z) (sym n)
 
 pub is_so : {x : Bool} (r b : Bool) → r ≡ x → r ≡ b → x ≡ b
 is_so r b e f = sym e ∙ f

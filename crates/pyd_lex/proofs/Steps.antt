@@ -1,4 +1,4 @@
--- what a step of the scanner keeps
+-- What a step of the scanner keeps.
 use Rattle.std.proofs.Common.{◌≡◌, ℕ, ◌+◌, ◌-◌, ◌<◌, ◌≤◌, Bool, true, false, ◌==◌, nat_lt, List, [], ◌∷◌, ◌++◌, length, take, drop, reverse, get_or, Option, Some, None, Result, Ok, Err, OnOk, IfOk, IfErr, IsSome, refl, sym, ap, subst, ◌∙◌, arith, inl, inr, length-take-le, encode_utf8_all, take-append-drop, length-append}
 use Rattle.std.specs.Option.{option_to_list}
 use Rattle.std.proofs.lemmas.List.{reverse-append, get_or-reverse}

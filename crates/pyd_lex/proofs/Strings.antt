@@ -1,4 +1,4 @@
--- where a string ends, step by step
+-- Where a string ends, step by step.
 use Rattle.std.proofs.Common.{◌≡◌, ℕ, zero, suc, ◌+◌, ◌<◌, ◌≤◌, Bool, true, false, ◌&&◌, ◌==◌, [], ◌∷◌, length, take, drop, get_or, nat_le, Option, Some, None, refl, sym, ap, subst, ◌∙◌, arith, inl, inr, length-take-le, if◌then◌else◌}
 use Rattle.std.proofs.lemmas.Bool.{cases_Bool, cases_lt, eqb-true, eq-eqb}
 use Rattle.std.proofs.Math.Bool.{or-false}

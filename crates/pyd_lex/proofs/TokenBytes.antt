@@ -1,4 +1,4 @@
--- the tokens of bytes stand in them in order, and their bytes spell them
+-- The tokens of bytes stand in them in order, and their bytes spell them.
 use Rattle.std.proofs.Common.{◌≡◌, ℕ, zero, suc, ◌+◌, ◌≤◌, Bool, true, false, ◌==◌, nat_lt, List, [], ◌∷◌, ◌++◌, length, take, drop, Ok, Err, refl, sym, ap, subst, ◌∙◌, arith, inl, inr, All, count_by, cond}
 use Rattle.std.specs.Str.{IsUtf8, chars}
 use Rattle.std.proofs.lemmas.List.Sums.{sum_by-cons}

@@ -1,4 +1,4 @@
--- a text that means a token spells one of its kind
+-- A text that means a token spells one of its kind.
 use Rattle.std.proofs.Common.{◌≡◌, ℕ, Bool, true, false, ◌==◌, [], ◌∷◌, Option, Some, None, Result, Ok, Err, refl, subst, if◌then◌else◌}
 use Rattle.pyd_lex.specs.declared.fault.Flaw.{Flaw}
 use Rattle.pyd_lex.specs.declared.fault.Flaw.TheVariants.{BadNumber}
@@ -11,7 +11,7 @@ use Rattle.pyd_lex.specs.declared.token.TokenKind.TheVariants as kind
 use Rattle.pyd_lex.specs.declared.word.Word.{Word}
 use Rattle.pyd_lex.specs.Words.{Text, keyword, mark_of}
 use Rattle.pyd_lex.specs.Strings.{string_flaw}
-use Rattle.pyd_lex.specs.Numbers.{number, is_digits, radix, digits, amount, narrow, has_leading_zero, sized}
+use Rattle.pyd_lex.specs.Numbers.{number, is_digits, radix, digits, amount, bounded, has_leading_zero, sized}
 use Rattle.pyd_lex.specs.Spelling.{class_of}
 use Rattle.pyd_lex.specs.Meaning.{meaning, judged, as_token, ended, name, in_nfkc, known, spacing_or, marked}
 use Rattle.pyd_lex.specs.TokenBytes.{HasText, TokenTexts}
@@ -59,7 +59,7 @@ digits_text z false c o k i e = cc
 number_text : (z : Text) (k : TokenKind) → number z ≡ Ok k → HasText k z
 unfolding number
 number_text z k e =
-    let o = narrow (amount (radix z) 0 (digits z)) in digits_text z (is_digits (radix z) (digits z)) (has_leading_zero (radix z) z o) o k e e
+    let o = bounded (amount (radix z) 0 (digits z)) in digits_text z (is_digits (radix z) (digits z)) (has_leading_zero (radix z) z o) o k e e
 
 known_text : (c : ℕ) (z : Text) (o : Option Word) (k : TokenKind) → class_of c ≡ Letter → in_nfkc (c ∷ z) ≡ true → keyword (c ∷ z) ≡ o → as_kind (known o) ≡ Ok k → HasText k (c ∷ z)
 known_text c z None k l n w e = text_as (c ∷ z) kind.Name k (record { first = l; normal = n; free = w }) e

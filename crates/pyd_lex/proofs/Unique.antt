@@ -1,4 +1,4 @@
--- one answer, and one for all bytes
+-- One answer, and one for all bytes.
 use Rattle.std.proofs.Common.{◌≡◌, Err, refl, sym, ap, ◌∙◌, inl, inr}
 use Rattle.std.specs.Str.{chars, is_utf8}
 use Rattle.std.specs.Str.Lossy.{utf8_valid_len}

@@ -1,4 +1,4 @@
--- the value of a string, character by character
+-- The value of a string, character by character.
 use Rattle.std.proofs.Common.{◌≡◌, ℕ, ◌≤◌, Bool, true, false, ◌==◌, List, [], ◌∷◌, length, drop, Option, Some, None, refl, sym, ap, subst, ◌∙◌, arith, if◌then◌else◌, ◌++◌, ◌<◌, get_or, encode_utf8_all, append_assoc, append-nil}
 use Rattle.std.specs.Prelude.{encode_utf8}
 use Rattle.pyd_lex.specs.declared.string.Quotes.{Quotes}

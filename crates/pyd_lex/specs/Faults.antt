@@ -1,4 +1,4 @@
--- the first place in the text where no token fits: a flawed piece, or a line indented wrongly
+-- The first place in the text where no token fits: a flawed piece, or a line indented wrongly.
 use Rattle.std.specs.Prelude.{ℕ, Bool, true, ◌||◌, ◌==◌, nat_lt, List, [], ◌∷◌, filter, Option, Some, None, Ok, Err, if◌then◌else◌}
 use Rattle.std.specs.List.{list_all, list_any}
 use Rattle.pyd_lex.specs.declared.fault.LexFault.{LexFault}

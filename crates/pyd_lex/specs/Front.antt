@@ -1,4 +1,4 @@
--- the longest piece at the front of a text
+-- The longest piece at the front of a text.
 use Rattle.std.specs.Prelude.{◌≡◌, ℕ, ◌≤◌, take, Ok, Err}
 use Rattle.pyd_lex.specs.declared.fault.Flaw.{Flaw}
 use Rattle.pyd_lex.specs.declared.token.Shape.{Shape}

@@ -1,4 +1,4 @@
--- laws of the tokens of bytes
+-- Laws of the tokens of bytes.
 use Rattle.std.specs.Prelude.{◌≡◌, ◌↔◌, ℕ, List, [], ◌∷◌, Some, Ok, Err, ◌+◌, flat_map}
 use Rattle.std.specs.Str.{IsUtf8, chars}
 use Rattle.pyd_lex.specs.declared.fault.LexFault.{LexFault}

@@ -1,4 +1,4 @@
--- pieces at their places, the logical lines that they make, and the tokens of these
+-- Pieces at their places, the logical lines that they make, and the tokens of these.
 use Rattle.std.specs.Prelude.{ℕ, ◌+◌, ◌-◌, Bool, true, false, not, ◌&&◌, ◌||◌, ◌==◌, nat_lt, List, [], ◌∷◌, ◌++◌, length, Result, Ok, Err, if◌then◌else◌, encode_utf8_all}
 use Rattle.pyd_lex.specs.declared.fault.Flaw.{Flaw}
 use Rattle.pyd_lex.specs.declared.fault.Flaw.TheVariants as flaw

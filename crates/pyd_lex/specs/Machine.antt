@@ -1,4 +1,4 @@
--- a machine that takes the pieces one by one, with a mode and a stack of widths
+-- A machine that takes the pieces one by one, with a mode and a stack of widths.
 use Rattle.std.specs.Prelude.{ℕ, ◌+◌, Bool, true, false, ◌&&◌, ◌==◌, List, [], ◌∷◌, Ok, Err}
 use Rattle.pyd_lex.specs.declared.fault.LexFault.TheVariants as fault
 use Rattle.pyd_lex.specs.declared.mode.Mode.{Mode}

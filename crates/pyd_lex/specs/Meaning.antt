@@ -1,4 +1,4 @@
--- what a piece of the text means
+-- What a piece of the text means.
 use Rattle.std.specs.Prelude.{ℕ, Bool, ◌==◌, [], ◌∷◌, Option, Some, None, Result, Ok, Err, if◌then◌else◌}
 use Rattle.std.specs.Str.{bytes_eq}
 use Rattle.unicode_normalization.specs.Forms.{nfkc}

@@ -1,7 +1,8 @@
--- integer literals
-use Rattle.std.specs.Prelude.{ℕ, ◌+◌, ◌*◌, ◌^◌, Bool, true, false, not, ◌&&◌, ◌||◌, ◌==◌, nat_lt, [], ◌∷◌, drop, pos, Option, Some, None, Result, Ok, Err, if◌then◌else◌}
+-- Integer literals.
+use Rattle.std.specs.Prelude.{ℕ, ◌+◌, ◌*◌, Bool, true, false, not, ◌&&◌, ◌||◌, ◌==◌, nat_lt, [], ◌∷◌, drop, pos, Option, Some, None, Result, Ok, Err, if◌then◌else◌}
 use Rattle.std.specs.Char.{digit_value, is_digit}
 use Rattle.std.specs.Str.{bytes_eq}
+use Rattle.pyd_value.specs.Limits.{integer_bound}
 use Rattle.pyd_lex.specs.declared.fault.Flaw.{Flaw}
 use Rattle.pyd_lex.specs.declared.fault.Flaw.TheVariants.{BadNumber, WideNumber}
 use Rattle.pyd_lex.specs.declared.token.TokenKind.{TokenKind}
@@ -45,9 +46,9 @@ amount base n (c ∷ z) = amount base (if c == 95 then n else n * base + digit_v
 abbrev pub is_digits : ℕ → Text → Bool
 is_digits base z = not (bytes_eq z []) && has_single_underscores base z
 
--- a value that the widest integer isn't below
-abbrev pub narrow : ℕ → Option ℕ
-narrow n = if nat_lt n (2 ^ 127) then Some n else None
+-- a value below the bound of integers
+abbrev pub bounded : ℕ → Option ℕ
+bounded n = if nat_lt n integer_bound then Some n else None
 
 -- whether the value is there, and 0
 abbrev pub is_zero : Option ℕ → Bool
@@ -70,4 +71,4 @@ checked base z n = if has_leading_zero base z n then Err BadNumber else sized n
 -- the literal's value, or what is wrong with it
 unfoldable pub number : Text → Result TokenKind Flaw
 number z =
-    if is_digits (radix z) (digits z) then checked (radix z) z (narrow (amount (radix z) 0 (digits z))) else Err BadNumber
+    if is_digits (radix z) (digits z) then checked (radix z) z (bounded (amount (radix z) 0 (digits z))) else Err BadNumber

@@ -1,4 +1,4 @@
--- how a string is read: where it ends, and its value one character after the other
+-- How a string is read: where it ends, and its value one character after the other.
 use Rattle.std.specs.Prelude.{◌≡◌, ℕ, ◌+◌, ◌≤◌, ◌==◌, [], ◌∷◌, length, take, drop, Option, Some, None, true, if◌then◌else◌}
 use Rattle.pyd_lex.specs.declared.fault.Flaw.{Flaw}
 use Rattle.pyd_lex.specs.declared.string.Quotes.{Quotes}

@@ -1,4 +1,4 @@
--- the tokens of bytes, or their first fault
+-- The tokens of bytes, or their first fault.
 use Rattle.std.specs.Prelude.{◌≡◌, ℕ, Bool, ◌⊎◌, List, [], ◌∷◌, drop, Err, if◌then◌else◌}
 use Rattle.std.specs.Str.{IsUtf8, chars}
 use Rattle.std.specs.Str.Lossy.{utf8_valid_len}

@@ -1,4 +1,4 @@
--- the machine as the scanner runs it, with the tokens so far
+-- The machine as the scanner runs it, with the tokens so far.
 use Rattle.std.specs.Prelude.{◌≡◌, ℕ, ◌≤◌, List, [], ◌++◌, Result, Ok, OnOk, IfErr, reverse}
 use Rattle.pyd_lex.specs.declared.fault.Flaw.{Flaw}
 use Rattle.pyd_lex.specs.declared.fault.LexStop.{LexStop}

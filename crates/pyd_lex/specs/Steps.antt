@@ -1,4 +1,4 @@
--- the machine's steps: what one piece does, whatever pieces follow
+-- The machine's steps: what one piece does, whatever pieces follow.
 use Rattle.std.specs.Prelude.{◌≡◌, ℕ, List, ◌∷◌, Ok, Err}
 use Rattle.pyd_lex.specs.declared.fault.Flaw.{Flaw}
 use Rattle.pyd_lex.specs.declared.fault.LexFault.{LexFault}

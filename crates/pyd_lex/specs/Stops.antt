@@ -1,4 +1,4 @@
--- answers that want of memory may cut off
+-- Answers that want of memory may cut off.
 use Rattle.pyd_lex.specs.declared.fault.Flaw.{Flaw}
 use Rattle.pyd_lex.specs.declared.fault.LexFault.{LexFault}
 use Rattle.pyd_lex.specs.declared.fault.LexStop.{LexStop}

@@ -1,4 +1,4 @@
--- strings, from after their opening quotes on
+-- Strings, from after their opening quotes on.
 use Rattle.std.specs.Prelude.{ℕ, Bool, true, false, ◌&&◌, ◌||◌, ◌==◌, nat_le, [], ◌∷◌, length, drop, Option, Some, None, if◌then◌else◌}
 use Rattle.std.specs.Str.{bytes_eq}
 use Rattle.pyd_lex.specs.declared.fault.Flaw.{Flaw}

@@ -1,4 +1,4 @@
--- the text of a token
+-- The text of a token.
 use Rattle.std.specs.Prelude.{◌≡◌, ℕ, List, take, drop, encode_utf8_all}
 use Rattle.std.specs.Str.{IsUtf8, chars}
 use Rattle.pyd_lex.specs.declared.token.Token.{Token}

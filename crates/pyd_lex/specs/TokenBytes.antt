@@ -1,4 +1,4 @@
--- where the tokens of bytes stand, and what their bytes spell
+-- Where the tokens of bytes stand, and what their bytes spell.
 use Rattle.std.specs.Prelude.{◌≡◌, ℕ, ◌≤◌, Bool, true, false, ◌⊎◌, List, [], ◌∷◌, ◌++◌, length, take, All, count_by, Some, None, Ok}
 use Rattle.std.specs.Str.{IsUtf8, chars}
 use Rattle.pyd_lex.specs.declared.token.Shape.{Shape}

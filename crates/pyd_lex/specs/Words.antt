@@ -1,4 +1,4 @@
--- the spellings of keywords and marks
+-- The spellings of keywords and marks.
 use Rattle.std.specs.Prelude.{ℕ, Bool, true, false, ◌&&◌, ◌==◌, List, [], ◌∷◌, length, Option, Some, None, if◌then◌else◌, codes}
 use Rattle.std.specs.Str.{bytes_eq}
 use Rattle.pyd_lex.specs.declared.word.Word.{Word}

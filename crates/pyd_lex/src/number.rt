@@ -1,12 +1,14 @@
 //! Integer literals.
 
-ghost use Rattle.std.specs.Prelude.{◌≡◌, ◌≤◌, ◌<◌, ◌+◌, ◌*◌, ◌^◌, pos, IfSome};
+ghost use Rattle.std.specs.Prelude.{◌≡◌, ◌≤◌, ◌<◌, ◌+◌, ◌*◌, pos, IfSome};
 ghost use Rattle.std.specs.Char.{digit_value, is_digit};
+ghost use Rattle.pyd_value.specs.Limits.{integer_bound};
 ghost use Rattle.pyd_lex.specs.Numbers as spec;
 
 use crate::TokenKind;
 use crate::fault::Flaw;
 use crate::run::begins;
+use pyd_value::INTEGER_BOUND;
 
 /// The token that a run of digits and letters is, whose first character is a digit.
 #[tactic(auto, unfolding(crate::specs::Numbers::number))]
@@ -49,7 +51,7 @@ fn is_zero(amount: Option<u128>) -> bool
 }
 
 fn sized(amount: Option<u128>) -> Result<TokenKind, Flaw>
-    requires { IfSome amount (λ n. n < 2 ^ 127) }
+    requires { IfSome amount (λ n. n < integer_bound) }
     ensures { result ≡ spec.sized amount }
 {
     match amount {
@@ -59,7 +61,7 @@ fn sized(amount: Option<u128>) -> Result<TokenKind, Flaw>
 }
 
 fn signed(n: u128) -> i128
-    requires { n < 2 ^ 127 }
+    requires { n < integer_bound }
     ensures { result ≡ pos n }
 {
     n as i128
@@ -128,18 +130,18 @@ fn digit(c: char) -> u32
 
 /// The number one digit longer, where it isn't too wide.
 fn longer(base: u32, n: u128, c: char) -> Option<u128>
-    ensures { result ≡ spec.narrow (n * base + digit_value c) }
+    ensures { result ≡ spec.bounded (n * base + digit_value c) }
 {
     let n = n
         .checked_mul(u128::from(base))?
         .checked_add(u128::from(digit(c)))?;
-    if n < 1 << 127 { Some(n) } else { None }
+    if n < INTEGER_BOUND { Some(n) } else { None }
 }
 
 /// The value of the digits, where it isn't too wide.
 fn amount(base: u32, mut text: &[char]) -> Option<u128>
     requires { 1 ≤ base }
-    ensures { result ≡ spec.narrow (spec.amount base 0 text.entry.now) }
+    ensures { result ≡ spec.bounded (spec.amount base 0 text.entry.now) }
 {
     let mut n = 0;
     while let [c, rest @ ..] = text {

@@ -1,5 +1,6 @@
 //! Small scripts with all that they do. Each function has an empty body, and its contract is the row.
-ghost use Rattle.std.specs.Prelude.{[], ◌∷◌, ◌^◌, ◌-◌, codes};
+ghost use Rattle.std.specs.Prelude.{[], ◌∷◌, codes};
+ghost use Rattle.pyd_value.specs.Limits.{greatest_integer};
 ghost use Rattle.pyd_value.specs.declared.fault.End.TheVariants.{Finished, Limit};
 ghost use Rattle.pyd_value.specs.declared.fault.Limit.TheVariants as limit;
 ghost use Rattle.pyd_meaning.specs.Rows.{literal, sum_of, print_of, file_of, Does};
@@ -18,6 +19,6 @@ pub fn sums_row()
 
 /// The line `print(7)`, then a sum that is one too wide, then a line that isn't reached.
 pub fn limit_row()
-    ensures { Does (file_of (print_of 1 (literal 7) ∷ print_of 2 (sum_of (2 ^ 127 - 1) (1 ∷ [])) ∷ print_of 3 (literal 8) ∷ []))
+    ensures { Does (file_of (print_of 1 (literal 7) ∷ print_of 2 (sum_of greatest_integer (1 ∷ [])) ∷ print_of 3 (literal 8) ∷ []))
         (codes "7" ∷ []) (Limit limit.Int 2) 8 }
 {}

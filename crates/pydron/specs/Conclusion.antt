@@ -1,5 +1,5 @@
 -- How a run of these words over this input concludes, and what it leaves.
-use Rattle.std.specs.Prelude.{◌≡◌, ◌⊎◌, ℕ, ◌<◌, ◌≤◌, List, [], ◌∷◌, ◌++◌, length, map, codes, Option, IfSome, String, string_bytes, decimal}
+use Rattle.std.specs.Prelude.{◌≡◌, ◌⊎◌, ℕ, ◌+◌, ◌<◌, ◌≤◌, List, [], ◌∷◌, ◌++◌, length, map, codes, Option, IfSome, String, string_bytes, decimal}
 use Rattle.std.specs.declared.alloc.Global.{Global}
 use Rattle.pyd_value.specs.declared.fault.Limit.{Limit}
 use Rattle.pyd_value.specs.declared.fault.Limit.TheVariants as limit
@@ -14,6 +14,7 @@ use Rattle.pydron.specs.declared.status.Status.TheVariants as status
 use Rattle.pydron.specs.declared.conclusion.Conclusion.{Conclusion}
 use Rattle.pydron.specs.declared.conclusion.Conclusion.TheVariants as conclusion
 use Rattle.pydron.specs.Form.{FirstOther}
+use Rattle.pydron.specs.Limits.{longest_source}
 use Rattle.pydron.specs.Tree.{IsTreeOf}
 
 -- the only word is `run`
@@ -23,7 +24,7 @@ IsRun words = map string_bytes words ≡ codes "run" ∷ []
 -- the input fits, and the file is its tree
 pub record IsAccepted (words : List (String Global)) (input : List ℕ) (file : File) : Type 0 where
   pub run : IsRun words
-  pub fits : length input ≤ 1_048_576
+  pub fits : length input ≤ longest_source
   pub tree : IsTreeOf input file
 
 -- what a source has left and a sink holds, before and after
@@ -64,14 +65,14 @@ pub record RefusesWords (words : List (String Global)) (t : Traces) : Type 0 whe
 -- the input is longer than a source may be
 pub record RefusesLength (words : List (String Global)) (input : List ℕ) (t : Traces) : Type 0 where
   pub run : IsRun words
-  pub long : 1_048_576 < length input
-  pub taken : TookExactly t.left 1_048_577 t.left_after
+  pub long : longest_source < length input
+  pub taken : TookExactly t.left (longest_source + 1) t.left_after
   pub silent : PutsNothing t
 
 -- this line of the input is the first that isn't of the form
 pub record RefusesLine (words : List (String Global)) (input : List ℕ) (line : ℕ) (t : Traces) : Type 0 where
   pub run : IsRun words
-  pub fits : length input ≤ 1_048_576
+  pub fits : length input ≤ longest_source
   pub first : FirstOther input line
   pub read : Emptied t.left t.left_after
   pub silent : PutsNothing t

@@ -2,12 +2,13 @@
 use Rattle.std.specs.Prelude.{◌≡◌, ℕ, ◌+◌, ◌<◌, ◌^◌, List, [], ◌∷◌, ◌++◌, length, slice_index, replicate, codes, if◌then◌else◌, ◌==◌}
 use Rattle.std.specs.List.{All, flat_map, slice_split}
 use Rattle.std.specs.Str.Parse.{IsNumeral, digits_value}
+use Rattle.pyd_value.specs.Limits.{integer_bound}
 
 -- digits without a leading zero, of a number that fits an integer
 pub record IsTerm (digits : List ℕ) : Type 0 where
   pub numeral : IsNumeral 10 digits
   pub plain : slice_index digits 0 ≡ 48 → length digits ≡ 1
-  pub within : digits_value 10 digits < 2 ^ 127
+  pub within : digits_value 10 digits < integer_bound
 
 -- a `+`, how many spaces stand before and behind it, and the digits that follow
 pub record Addend : Type 0 where

@@ -3,3 +3,4 @@ pub mod Form
 pub mod Laws
 pub mod Reading
 pub mod Tree
+pub mod Limits

@@ -1,5 +1,6 @@
 //! Reads the files that are run so far into their trees.
 ghost use Rattle.std.specs.Prelude.{◌≡◌, ◌<◌, ◌≤◌, [], length, IfOk, OnOk, IfErr};
+ghost use Rattle.pydron.specs.Limits.{longest_source};
 ghost use Rattle.pydron.specs.declared.read.SourceStop.TheVariants.{NoMemory as OutOfMemory};
 ghost use Rattle.pydron.specs.Reading.{CutsAddends, CutsLine, AddsSum, AddsPrint, AddsLine, StopsLine, StopsFile};
 ghost use Rattle.pydron.specs.Tree.{IsTreeOf};
@@ -30,7 +31,7 @@ impl From<NoMemory> for SourceStop {
 
 /// The tree of a file of lines that print sums (docs/LANGUAGE.md, "What runs so far").
 pub fn read_sums(alloc: Global, bytes: &[u8]) -> Result<File, SourceStop>
-    requires { length bytes.now ≤ 1_048_576 }
+    requires { length bytes.now ≤ longest_source }
     ensures ok { IfOk result (IsTreeOf bytes.now) }
     ensures err { IfErr result (StopsFile bytes.now) }
 {
@@ -41,7 +42,7 @@ pub fn read_sums(alloc: Global, bytes: &[u8]) -> Result<File, SourceStop>
 
 /// Reads lines to the end and adds an item for each.
 fn read_lines(alloc: Global, bytes: &[u8], items: &mut List<Item>) -> Result<(), SourceStop>
-    requires within { length bytes.now ≤ 1_048_576 }
+    requires within { length bytes.now ≤ longest_source }
     requires empty { items.old ≡ [] }
     ensures ok { OnOk result (IsTreeOf bytes.now (record { items = items.new })) }
     ensures err { IfErr result (StopsFile bytes.now) }

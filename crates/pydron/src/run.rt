@@ -1,6 +1,7 @@
 //! The top call: from words and a source to output, an error line and a status.
 ghost use Rattle.std.specs.Prelude.{◌≡◌, ◌≢◌, ◌≤◌, ◌↔◌, ◌⊎◌, ℕ, List, IsTrue, length};
 ghost use Rattle.pyd_source.specs.Faults.{Counted, Rose};
+ghost use Rattle.pydron.specs.Limits.{longest_source};
 ghost use Rattle.pydron.specs.Conclusion.{IsRun, IsInput, IsRunOf, Concludes, ConcludesSource, Reports, SinkCause};
 
 use crate::conclusion::Conclusion;
@@ -95,7 +96,7 @@ fn is_run(words: &[String]) -> bool
 
 /// Runs a source whose words are those of a run.
 fn run_source<K: Sink>(alloc: Global, bytes: &[u8], out: &mut K) -> Conclusion
-    requires { length bytes.now ≤ 1_048_576 }
+    requires { length bytes.now ≤ longest_source }
     ensures concludes { ConcludesSource bytes.now (K.held out.old) (K.held out.new) result }
     ensures read_fault { result ≢ Conclusion.ReadFault }
     ensures sink_fault { Counted (K.faults out.old) (K.faults out.new)

@@ -1,0 +1,10 @@
+pub mod Pieces
+pub mod Operators
+pub mod Actions
+pub mod Forms
+pub mod Makings
+pub mod Productions
+pub mod Derivation
+pub mod Reading
+pub mod Files
+pub mod Laws
