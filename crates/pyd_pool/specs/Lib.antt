@@ -1,0 +1,5 @@
+pub mod Accounts
+pub mod Hands
+pub mod Whole
+pub mod Ends
+pub mod Passing
