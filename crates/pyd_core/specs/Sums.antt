@@ -16,10 +16,12 @@ use Rattle.pyd_tree.specs.declared.file.File.{File}
 use Rattle.pyd_tree.specs.declared.file.Item.{Item}
 use Rattle.pyd_tree.specs.declared.file.Item.TheVariants as item
 
+-- an integer
 abbrev pub IsInt : Value → Type 0
 IsInt (Int n) = Unit {0}
 IsInt _ = ⊥
 
+-- an integer literal, by its first level
 abbrev pub IsLiteralAt : Expr-F Expr Suffix → Type 0
 IsLiteralAt (Expr-F.Lit v) = IsInt v
 IsLiteralAt _ = ⊥
@@ -33,6 +35,7 @@ pub record IsAddend (link : BinOp × Expr) : Type 0 where
   pub plus : link.0 ≡ Add
   pub literal : IsLiteral link.1
 
+-- a literal, or literals joined by `+`, by its first level
 abbrev pub IsSumAt : Expr-F Expr Suffix → Type 0
 IsSumAt (Expr-F.Lit v) = IsInt v
 IsSumAt (Expr-F.Chain first links) = IsLiteral first × All IsAddend links
@@ -42,10 +45,12 @@ IsSumAt _ = ⊥
 abbrev pub IsSum : Expr → Type 0
 IsSum e = IsSumAt (out-Expr e)
 
+-- one sum alone
 abbrev pub IsOneSum : List Expr → Type 0
 IsOneSum (e ∷ []) = IsSum e
 IsOneSum _ = ⊥
 
+-- a call of `print` with one sum, by its first level
 abbrev pub IsPrintAt : Expr-F Expr Suffix → Type 0
 IsPrintAt (Expr-F.Call name args) = (name ≡ codes "print") × IsOneSum args
 IsPrintAt _ = ⊥
@@ -54,6 +59,7 @@ IsPrintAt _ = ⊥
 abbrev pub IsPrint : Expr → Type 0
 IsPrint e = IsPrintAt (out-Expr e)
 
+-- a statement that prints a sum, by its first level
 abbrev pub PrintsAt : What-F What Arm Block Stmt → Type 0
 PrintsAt (What-F.Expr e) = IsPrint e
 PrintsAt _ = ⊥

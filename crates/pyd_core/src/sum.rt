@@ -61,7 +61,8 @@ fn sum(e: &Expr, line: u32) -> Result<i128, Fault>
 /// The sum of these addends onto the terms before them, each sum within the limit.
 fn sum_on(first: i128, links: &[(BinOp, Expr)], line: u32) -> Result<i128, Fault>
     requires { All IsAddend links.now }
-    ensures value { IsSilent (chained (Int first) (meanings links.now) (in_line line)) (as_value result) }
+    ensures value { IsSilent (chained (Int first) (meanings links.now) (in_line line))
+        (as_value result) }
     ensures limit { IfErr result IsLimit }
 {
     let mut total = first;

@@ -49,7 +49,8 @@ fn no_targets(alloc: Global) -> Result<Targets, NoMemory>
 
 /// The targets that the left side of an assignment is.
 fn targets(alloc: Global, left: &Expr) -> Result<Targets, NoMemory>
-    ensures { IfOk result (λ targets. targets ≡ unwrap_or (spec.targets_of left.now) spec.no_targets) }
+    ensures { IfOk result (λ targets. targets ≡ unwrap_or (spec.targets_of left.now)
+        spec.no_targets) }
 {
     match targets_of(alloc, left)? {
         Some(targets) => Ok(targets),
@@ -89,7 +90,8 @@ fn assigned(alloc: Global, left: Boxed<Expr>, rest: Piece) -> Result<Boxed<What>
 
 /// An expression, an assignment or an augmented one.
 pub fn simple(alloc: Global, pieces: &mut Stack<Piece>, line: u32) -> Result<Piece, NoMemory>
-    ensures made { IfOk result (λ v. v ≡ spec.as_simple [] line (part pieces.old 0) (part pieces.old 1)
+    ensures made { IfOk result (λ v. v ≡ spec.as_simple [] line (part pieces.old 0)
+        (part pieces.old 1)
         (part pieces.old 2)) }
     ensures rest { IfOk result (λ _. pieces.new ≡ drop 3 pieces.old) }
 {
@@ -144,7 +146,8 @@ pub fn for_loop(
     pieces: &mut Stack<Piece>,
     line: u32,
 ) -> Result<Piece, NoMemory>
-    ensures made { IfOk result (λ v. v ≡ spec.as_for bytes.now line (part pieces.old 0) (part pieces.old 1)
+    ensures made { IfOk result (λ v. v ≡ spec.as_for bytes.now line (part pieces.old 0)
+        (part pieces.old 1)
         (part pieces.old 2) (part pieces.old 3) (part pieces.old 4) (part pieces.old 5)) }
     ensures rest { IfOk result (λ _. pieces.new ≡ drop 6 pieces.old) }
 {
@@ -162,7 +165,8 @@ pub fn more_targets(
     pieces: &mut Stack<Piece>,
     line: u32,
 ) -> Result<Piece, NoMemory>
-    ensures made { IfOk result (λ v. v ≡ spec.as_targets bytes.now line (part pieces.old 0) (part pieces.old 1)
+    ensures made { IfOk result (λ v. v ≡ spec.as_targets bytes.now line (part pieces.old 0)
+        (part pieces.old 1)
         ) }
     ensures rest { IfOk result (λ _. pieces.new ≡ drop 2 pieces.old) }
 {

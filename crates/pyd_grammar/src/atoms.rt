@@ -19,7 +19,8 @@ pub fn name(
     pieces: &mut Stack<Piece>,
     line: u32,
 ) -> Result<Piece, NoMemory>
-    ensures made { IfOk result (λ v. v ≡ spec.as_name bytes.now line (part pieces.old 0) (part pieces.old 1)
+    ensures made { IfOk result (λ v. v ≡ spec.as_name bytes.now line (part pieces.old 0)
+        (part pieces.old 1)
         ) }
     ensures rest { IfOk result (λ _. pieces.new ≡ drop 2 pieces.old) }
 {

@@ -118,7 +118,8 @@ fn back(
     at: usize,
 ) -> Result<usize, NoMemory>
     requires { MayBack grammar tokens.now step at }
-    ensures { IfOk result (λ next. Back grammar bytes.now tokens.now step pieces.old at pieces.new next) }
+    ensures { IfOk result (λ next. Back grammar bytes.now tokens.now step pieces.old at pieces.new
+        next) }
 {
     match step {
         Step::Shift => {

@@ -85,7 +85,8 @@ pub fn import(
     pieces: &mut Stack<Piece>,
     line: u32,
 ) -> Result<Piece, NoMemory>
-    ensures made { IfOk result (λ v. v ≡ spec.as_import bytes.now line (part pieces.old 0) (part pieces.old 1)
+    ensures made { IfOk result (λ v. v ≡ spec.as_import bytes.now line (part pieces.old 0)
+        (part pieces.old 1)
         (part pieces.old 2) (part pieces.old 3) (part pieces.old 4) (part pieces.old 5)) }
     ensures rest { IfOk result (λ _. pieces.new ≡ drop 6 pieces.old) }
 {
@@ -107,7 +108,8 @@ pub fn names(
     pieces: &mut Stack<Piece>,
     line: u32,
 ) -> Result<Piece, NoMemory>
-    ensures made { IfOk result (λ v. v ≡ spec.as_names bytes.now line (part pieces.old 0) (part pieces.old 1)
+    ensures made { IfOk result (λ v. v ≡ spec.as_names bytes.now line (part pieces.old 0)
+        (part pieces.old 1)
         (part pieces.old 2)) }
     ensures rest { IfOk result (λ _. pieces.new ≡ drop 3 pieces.old) }
 {
@@ -125,7 +127,8 @@ pub fn decorated(
     pieces: &mut Stack<Piece>,
     line: u32,
 ) -> Result<Piece, NoMemory>
-    ensures made { IfOk result (λ v. v ≡ spec.as_decorated bytes.now line (part pieces.old 0) (part pieces.old 1)
+    ensures made { IfOk result (λ v. v ≡ spec.as_decorated bytes.now line (part pieces.old 0)
+        (part pieces.old 1)
         (part pieces.old 2) (part pieces.old 3)) }
     ensures rest { IfOk result (λ _. pieces.new ≡ drop 4 pieces.old) }
 {
@@ -144,7 +147,8 @@ pub fn function(
     pieces: &mut Stack<Piece>,
     line: u32,
 ) -> Result<Piece, NoMemory>
-    ensures made { IfOk result (λ v. v ≡ spec.as_def bytes.now line (part pieces.old 0) (part pieces.old 1)
+    ensures made { IfOk result (λ v. v ≡ spec.as_def bytes.now line (part pieces.old 0)
+        (part pieces.old 1)
         (part pieces.old 2) (part pieces.old 3) (part pieces.old 4) (part pieces.old 5)) }
     ensures rest { IfOk result (λ _. pieces.new ≡ drop 6 pieces.old) }
 {
@@ -177,7 +181,8 @@ pub fn params(
     pieces: &mut Stack<Piece>,
     line: u32,
 ) -> Result<Piece, NoMemory>
-    ensures made { IfOk result (λ v. v ≡ spec.as_params bytes.now line (part pieces.old 0) (part pieces.old 1)
+    ensures made { IfOk result (λ v. v ≡ spec.as_params bytes.now line (part pieces.old 0)
+        (part pieces.old 1)
         ) }
     ensures rest { IfOk result (λ _. pieces.new ≡ drop 2 pieces.old) }
 {

@@ -48,7 +48,8 @@ pub fn conditional(alloc: Global, pieces: &mut Stack<Piece>, line: u32) -> Resul
 
 /// An `elif`, and those behind it.
 pub fn elifs(alloc: Global, pieces: &mut Stack<Piece>, line: u32) -> Result<Piece, NoMemory>
-    ensures made { IfOk result (λ v. v ≡ spec.as_elifs [] line (part pieces.old 0) (part pieces.old 1)
+    ensures made { IfOk result (λ v. v ≡ spec.as_elifs [] line (part pieces.old 0)
+        (part pieces.old 1)
         (part pieces.old 2) (part pieces.old 3)) }
     ensures rest { IfOk result (λ _. pieces.new ≡ drop 4 pieces.old) }
 {
@@ -57,7 +58,8 @@ pub fn elifs(alloc: Global, pieces: &mut Stack<Piece>, line: u32) -> Result<Piec
 
 /// A `while`.
 pub fn while_loop(alloc: Global, pieces: &mut Stack<Piece>, line: u32) -> Result<Piece, NoMemory>
-    ensures made { IfOk result (λ v. v ≡ spec.as_while [] line (part pieces.old 0) (part pieces.old 1)
+    ensures made { IfOk result (λ v. v ≡ spec.as_while [] line (part pieces.old 0)
+        (part pieces.old 1)
         (part pieces.old 2)) }
     ensures rest { IfOk result (λ _. pieces.new ≡ drop 3 pieces.old) }
 {
@@ -69,7 +71,8 @@ pub fn while_loop(alloc: Global, pieces: &mut Stack<Piece>, line: u32) -> Result
 
 /// `pass`.
 pub fn pass_line(alloc: Global, pieces: &mut Stack<Piece>, line: u32) -> Result<Piece, NoMemory>
-    ensures made { IfOk result (λ v. v ≡ spec.as_pass [] line (part pieces.old 0) (part pieces.old 1)
+    ensures made { IfOk result (λ v. v ≡ spec.as_pass [] line (part pieces.old 0)
+        (part pieces.old 1)
         ) }
     ensures rest { IfOk result (λ _. pieces.new ≡ drop 2 pieces.old) }
 {
@@ -80,7 +83,8 @@ pub fn pass_line(alloc: Global, pieces: &mut Stack<Piece>, line: u32) -> Result<
 
 /// `break`.
 pub fn break_line(alloc: Global, pieces: &mut Stack<Piece>, line: u32) -> Result<Piece, NoMemory>
-    ensures made { IfOk result (λ v. v ≡ spec.as_break [] line (part pieces.old 0) (part pieces.old 1)
+    ensures made { IfOk result (λ v. v ≡ spec.as_break [] line (part pieces.old 0)
+        (part pieces.old 1)
         ) }
     ensures rest { IfOk result (λ _. pieces.new ≡ drop 2 pieces.old) }
 {
@@ -91,7 +95,8 @@ pub fn break_line(alloc: Global, pieces: &mut Stack<Piece>, line: u32) -> Result
 
 /// `continue`.
 pub fn continue_line(alloc: Global, pieces: &mut Stack<Piece>, line: u32) -> Result<Piece, NoMemory>
-    ensures made { IfOk result (λ v. v ≡ spec.as_continue [] line (part pieces.old 0) (part pieces.old 1)
+    ensures made { IfOk result (λ v. v ≡ spec.as_continue [] line (part pieces.old 0)
+        (part pieces.old 1)
         ) }
     ensures rest { IfOk result (λ _. pieces.new ≡ drop 2 pieces.old) }
 {
@@ -102,7 +107,8 @@ pub fn continue_line(alloc: Global, pieces: &mut Stack<Piece>, line: u32) -> Res
 
 /// A `return`.
 pub fn return_line(alloc: Global, pieces: &mut Stack<Piece>, line: u32) -> Result<Piece, NoMemory>
-    ensures made { IfOk result (λ v. v ≡ spec.as_return [] line (part pieces.old 0) (part pieces.old 1)
+    ensures made { IfOk result (λ v. v ≡ spec.as_return [] line (part pieces.old 0)
+        (part pieces.old 1)
         (part pieces.old 2)) }
     ensures rest { IfOk result (λ _. pieces.new ≡ drop 3 pieces.old) }
 {
@@ -114,7 +120,8 @@ pub fn return_line(alloc: Global, pieces: &mut Stack<Piece>, line: u32) -> Resul
 
 /// An `assert`.
 pub fn assert_line(alloc: Global, pieces: &mut Stack<Piece>, line: u32) -> Result<Piece, NoMemory>
-    ensures made { IfOk result (λ v. v ≡ spec.as_assert [] line (part pieces.old 0) (part pieces.old 1)
+    ensures made { IfOk result (λ v. v ≡ spec.as_assert [] line (part pieces.old 0)
+        (part pieces.old 1)
         (part pieces.old 2) (part pieces.old 3)) }
     ensures rest { IfOk result (λ _. pieces.new ≡ drop 4 pieces.old) }
 {

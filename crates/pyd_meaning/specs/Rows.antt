@@ -13,9 +13,11 @@ use Rattle.pyd_tree.specs.declared.file.Item.{Item}
 use Rattle.pyd_tree.specs.declared.file.Item.TheVariants as item
 use Rattle.pyd_meaning.specs.Module.{mean, end_of}
 
+-- an integer literal
 abbrev pub literal : ℕ → Expr
 literal n = roll-Expr (Expr-F.Lit (Int (pos n)))
 
+-- a literal, and `+` and a literal for each further number
 abbrev pub sum_of : ℕ → List ℕ → Expr
 sum_of n more = roll-Expr (Expr-F.Chain (literal n) (map (λ m. (Add, literal m)) more))
 
@@ -23,9 +25,11 @@ sum_of n more = roll-Expr (Expr-F.Chain (literal n) (map (λ m. (Add, literal m)
 abbrev pub statement : ℕ → Expr → Stmt
 statement line e = record { line = line; what = roll-What (What-F.Expr (roll-Expr (Expr-F.Call (codes "print") (e ∷ [])))) }
 
+-- the same as an item of a file
 abbrev pub print_of : ℕ → Expr → Item
 print_of line e = item.Stmt (statement line e)
 
+-- a file of these items
 abbrev pub file_of : List Item → File
 file_of items = record { items = items }
 

@@ -53,12 +53,15 @@ abbrev pub what_step : What-F (ℕ → Action) ArmAction Action Action → ℕ �
 what_step (What-F.Expr e) line names = meaning_of e (record { line = line }) >>= (λ v. gives (normally names))
 what_step _ line names = faults (Limit limit.Outside line)
 
+-- one level of an arm
 abbrev pub arm_step : Arm-F (ℕ → Action) ArmAction Action Action → ArmAction
 arm_step a = record { line = a.line; test = meaning_of a.test; body = a.body }
 
+-- one level of a block: its statements in turn
 abbrev pub block_step : Block-F (ℕ → Action) ArmAction Action Action → Action
 block_step b = in_turn b.stmts
 
+-- one level of a statement: a step, and what it does in its line
 abbrev pub statement_step : Stmt-F (ℕ → Action) ArmAction Action Action → Action
 statement_step s names = step (s.what s.line names)
 

@@ -14,11 +14,13 @@ pub fn numbers_row()
 
 /// The line `print(40+2+0)`.
 pub fn sums_row()
-    ensures { Does (file_of (print_of 1 (sum_of 40 (2 ∷ 0 ∷ [])) ∷ [])) (codes "42" ∷ []) Finished 6 }
+    ensures { Does (file_of (print_of 1 (sum_of 40 (2 ∷ 0 ∷ [])) ∷ [])) (codes "42" ∷ []) Finished
+        6 }
 {}
 
 /// The line `print(7)`, then a sum that is one too wide, then a line that isn't reached.
 pub fn limit_row()
-    ensures { Does (file_of (print_of 1 (literal 7) ∷ print_of 2 (sum_of greatest_integer (1 ∷ [])) ∷ print_of 3 (literal 8) ∷ []))
+    ensures { Does (file_of (print_of 1 (literal 7) ∷ print_of 2 (sum_of greatest_integer (1 ∷ []))
+        ∷ print_of 3 (literal 8) ∷ []))
         (codes "7" ∷ []) (Limit limit.Int 2) 8 }
 {}

@@ -62,6 +62,7 @@ bound_in (number n) = Some (Some n)
 bound_in nothing = Some None
 bound_in a = None
 
+-- a bound of a slice: a number, none, or of no kind that a bound has
 abbrev pub bound : Option Value → Option (Option ℤ)
 bound None = Some None
 bound (Some v) = bound_in (shape_of v)

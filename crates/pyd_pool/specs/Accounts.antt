@@ -5,6 +5,7 @@ use lib.ListN.{get_elem?}
 use Rattle.pyd_board.specs.declared.seat.Ticket.{Ticket}
 use Rattle.pyd_pool.specs.declared.account.Account.{Account}
 
+-- so many parts, and what was put and taken
 abbrev pub account : ℕ → List Ticket → List Ticket → Account
 account parts put taken = record { parts = parts; put = put; taken = taken }
 
@@ -13,6 +14,7 @@ abbrev pub total : {A : Type 0} → (A → ℕ) → List A → ℕ
 total f [] = 0
 total f (x ∷ xs) = f x + total f xs
 
+-- the weight of tickets
 abbrev pub weigh : (Ticket → ℕ) → List Ticket → ℕ
 weigh h [] = 0
 weigh h (x ∷ xs) = h x + weigh h xs
@@ -34,6 +36,7 @@ Balanced items views = (sent : List Ticket) × (got : List Ticket)
 abbrev pub Held : Account → List Ticket → Type 0
 Held v items = (port : ℕ) × (views : List Account) × Balanced items views × (get_elem? views port ≡ some v)
 
+-- there was a moment at which it held none
 abbrev pub WasEmpty : Account → Type 0
 WasEmpty v = Held v []
 

@@ -18,15 +18,19 @@ use Rattle.pyd_pool.specs.Accounts.{account, weigh}
 use Rattle.pyd_pool.specs.Hands.{deque_account, queue_account, deque_id, queue_id, puts, takes}
 use Rattle.pyd_pool.specs.Whole.{places, put_by, taken_by}
 
+-- a deque owner's account
 abbrev pub owner_account : Worker Ticket Global Account Conserved → Account
 owner_account w = worker_view w
 
+-- a queue keeper's account
 abbrev pub keeper_account : QueueKeeper → Account
 keeper_account x = x.pass.me.view.client
 
+-- which queue a keeper's is
 abbrev pub keeper_queue : QueueKeeper → SegId Global
 keeper_queue x = x.mailbox.value.queue
 
+-- each has so many parts
 abbrev pub HaveParts : {A : Type 0} → (A → Account) → ℕ → List A → Type 0
 HaveParts {A} f n xs = (k : ℕ) (x : A) → get_elem? xs k ≡ some x → (f x).parts ≡ n
 
@@ -35,16 +39,20 @@ abbrev pub all_put : (Ticket → ℕ) → List Hand → ℕ
 all_put h [] = 0
 all_put h (x ∷ xs) = put_by h x.reach + all_put h xs
 
+-- what all hands have taken
 abbrev pub all_taken : (Ticket → ℕ) → List Hand → ℕ
 all_taken h [] = 0
 all_taken h (x ∷ xs) = taken_by h x.reach + all_taken h xs
 
+-- it holds of each
 abbrev pub Every : {A : Type 0} → (A → Type 0) → List A → Type 0
 Every {A} F xs = (k : ℕ) (x : A) → get_elem? xs k ≡ some x → F x
 
+-- each deque is first in, first out
 abbrev pub AllFifo : List (Worker Ticket Global Account Conserved) → Type 0
 AllFifo xs = (k : ℕ) (x : Worker Ticket Global Account Conserved) → get_elem? xs k ≡ some x → worker_flavor x ≡ 0
 
+-- which deque is a hand's own
 abbrev pub hand_deque : Hand → RowsId × Global
 hand_deque x = worker_deque x.reach.own
 
@@ -52,10 +60,12 @@ hand_deque x = worker_deque x.reach.own
 abbrev pub hand_places : Hand → ℕ × (RowsId × Global) × List (RowsId × Global) × List (SegId Global)
 hand_places x = places x.reach
 
+-- what was put through these passes
 abbrev pub rests_put : (Ticket → ℕ) → List Rest → ℕ
 rests_put h [] = 0
 rests_put h (x ∷ xs) = (puts deque_account h x.deques.items + puts queue_account h x.queues.items) + rests_put h xs
 
+-- what was taken through these passes
 abbrev pub rests_taken : (Ticket → ℕ) → List Rest → ℕ
 rests_taken h [] = 0
 rests_taken h (x ∷ xs) = (takes deque_account h x.deques.items + takes queue_account h x.queues.items) + rests_taken h xs
@@ -76,9 +86,11 @@ HaveAll ds qs xs = (k : ℕ) (x : Hand) → get_elem? xs k ≡ some x → (map d
 abbrev pub AreAtHome : ℕ → List Hand → Type 0
 AreAtHome workers xs = (k : ℕ) (x : Hand) → get_elem? xs k ≡ some x → x.reach.home ≡ k / workers
 
+-- a hand's own deque
 abbrev pub owner_of : Hand → Worker Ticket Global Account Conserved
 owner_of x = x.reach.own
 
+-- a hand's passes without its own deque
 abbrev pub rest_of : Hand → Rest
 rest_of x = record { deques = x.reach.deques; queues = x.reach.queues }
 

@@ -12,15 +12,19 @@ use Rattle.pyd_pool.specs.declared.places.OtherDeque.{OtherDeque}
 use Rattle.pyd_pool.specs.declared.places.SharedQueue.{SharedQueue}
 use Rattle.pyd_pool.specs.Accounts.{account, weigh, total, WasEmpty}
 
+-- the account of a pass of a deque
 abbrev pub deque_account : OtherDeque → Account
 deque_account l = view l.pass
 
+-- the account of a pass of a queue
 abbrev pub queue_account : SharedQueue → Account
 queue_account s = s.pass.me.view.client
 
+-- which deque it is
 abbrev pub deque_id : OtherDeque → RowsId × Global
 deque_id l = stealer_deque l.stealer
 
+-- which queue it is
 abbrev pub queue_id : SharedQueue → SegId Global
 queue_id s = s.mailbox.value.queue
 
@@ -29,6 +33,7 @@ abbrev pub puts : {A : Type 0} → (A → Account) → (Ticket → ℕ) → List
 puts f h [] = 0
 puts f h (x ∷ xs) = weigh h (f x).put + puts f h xs
 
+-- the same of what was taken
 abbrev pub takes : {A : Type 0} → (A → Account) → (Ticket → ℕ) → List A → ℕ
 takes f h [] = 0
 takes f h (x ∷ xs) = weigh h (f x).taken + takes f h xs
@@ -42,5 +47,6 @@ PutAt at t old new = (v : Account) → get_elem? (map queue_account old) at ≡ 
 abbrev pub WereEmpty : {A : Type 0} → (A → Account) → ℕ → List A → Type 0
 WereEmpty {A} f n xs = (k : ℕ) (x : A) → k < n → get_elem? xs k ≡ some x → WasEmpty (f x)
 
+-- each of them was empty at a moment
 abbrev pub AllWereEmpty : {A : Type 0} → (A → Account) → List A → Type 0
 AllWereEmpty f xs = WereEmpty f (length xs) xs

@@ -33,7 +33,8 @@ impl Reach {
         ticket: Ticket,
     ) -> Result<(), Ticket>
         ensures same { SamePlaces self.old self.new }
-        ensures rule { MatchResult result (λ _. Puts self.old self.new ticket) (λ t. (t ≡ ticket) × Keeps self.old self.new) }
+        ensures rule { MatchResult result (λ _. Puts self.old self.new ticket)
+            (λ t. (t ≡ ticket) × Keeps self.old self.new) }
         ensures at { IfOk result (λ _. Mails self.old self.new machine ticket) }
     {
         let at = self.queue_of(machine);
@@ -43,7 +44,8 @@ impl Reach {
     // On its own deque or, where that refuses the ticket, into its machine's queue.
     pub(crate) fn push<R: Wait>(&mut self, rt: &R, ticket: Ticket) -> Result<(), Ticket>
         ensures same { SamePlaces self.old self.new }
-        ensures rule { MatchResult result (λ _. Puts self.old self.new ticket) (λ t. (t ≡ ticket) × Keeps self.old self.new) }
+        ensures rule { MatchResult result (λ _. Puts self.old self.new ticket)
+            (λ t. (t ≡ ticket) × Keeps self.old self.new) }
         ensures at { IfOk result (λ _. Pushes self.old self.new ticket) }
     {
         match self.own.push_as::<Put>(ticket) {
@@ -58,7 +60,8 @@ impl Reach {
     // A ticket of its own deque, its machine's queue, the other deques or the other queues.
     pub(crate) fn take<R: Wait>(&mut self, rt: &R) -> Option<Ticket>
         ensures same { SamePlaces self.old self.new }
-        ensures rule { MatchOption result (Keeps self.old self.new × SawNone self.new) (Takes self.old self.new) }
+        ensures rule { MatchOption result (Keeps self.old self.new × SawNone self.new)
+            (Takes self.old self.new) }
     {
         if let Some(ticket) = self.own.pop_as::<Took>() {
             return Some(ticket);
@@ -93,7 +96,8 @@ impl Hand {
         ticket: Ticket,
     ) -> Result<(), (Ticket, NoMemory)>
         ensures same { places self.new.reach ≡ places self.old.reach }
-        ensures rule { MatchResult result (λ _. Puts self.old.reach self.new.reach ticket) (λ e. (e.0 ≡ ticket) × Keeps self.old.reach self.new.reach) }
+        ensures rule { MatchResult result (λ _. Puts self.old.reach self.new.reach ticket)
+            (λ e. (e.0 ≡ ticket) × Keeps self.old.reach self.new.reach) }
         ensures at { IfOk result (λ _. Mails self.old.reach self.new.reach machine ticket) }
     {
         wait_at(rt, self.put, 1 << 56);
@@ -109,7 +113,8 @@ impl Hand {
     /// On its own deque or, where that refuses the ticket, into its machine's queue.
     pub fn push<R: Wait>(&mut self, rt: &R, ticket: Ticket) -> Result<(), (Ticket, NoMemory)>
         ensures same { places self.new.reach ≡ places self.old.reach }
-        ensures rule { MatchResult result (λ _. Puts self.old.reach self.new.reach ticket) (λ e. (e.0 ≡ ticket) × Keeps self.old.reach self.new.reach) }
+        ensures rule { MatchResult result (λ _. Puts self.old.reach self.new.reach ticket)
+            (λ e. (e.0 ≡ ticket) × Keeps self.old.reach self.new.reach) }
         ensures at { IfOk result (λ _. Pushes self.old.reach self.new.reach ticket) }
     {
         wait_at(rt, self.put, 1 << 56);
@@ -125,7 +130,8 @@ impl Hand {
     /// A ticket of its own deque, its machine's queue, the other deques or the other queues.
     pub fn take<R: Wait>(&mut self, rt: &R) -> Option<Ticket>
         ensures same { places self.new.reach ≡ places self.old.reach }
-        ensures rule { MatchOption result (Keeps self.old.reach self.new.reach × SawNone self.new.reach) (Takes self.old.reach self.new.reach) }
+        ensures rule { MatchOption result (Keeps self.old.reach self.new.reach × SawNone
+            self.new.reach) (Takes self.old.reach self.new.reach) }
     {
         wait_at(rt, self.taken, 1 << 62);
         match self.reach.take(rt) {

@@ -26,7 +26,8 @@ impl Pool {
     ) -> Result<Vec<Ticket>, (Pool, Vec<Hand>, NoMemory)>
         requires { AllHands self hands.items }
         ensures kept { IfErr result (λ e. (e.0 ≡ self) × (e.1 ≡ hands)) }
-        ensures whole { IfOk result (λ left. (h : Ticket → ℕ) → all_put h hands.items ≡ all_taken h hands.items + weigh h left.items) }
+        ensures whole { IfOk result (λ left. (h : Ticket → ℕ) → all_put h hands.items ≡ all_taken h
+            hands.items + weigh h left.items) }
     {
         let Ok(mut left) = Vec::with_capacity(self.alloc, left_count(&hands) as usize) else {
             return Err((self, hands, NoMemory));
@@ -53,8 +54,11 @@ impl Pool {
 fn join_deque(own: &mut DequeOwner, deque: OtherDeque)
     requires more { 0 < (worker_view own.old).parts }
     requires is { deque_id deque ≡ worker_deque own.old }
-    ensures same { (worker_deque own.new ≡ worker_deque own.old) × (worker_flavor own.new ≡ worker_flavor own.old) }
-    ensures rule { worker_view own.new ≡ account ((worker_view own.old).parts + 1) ((worker_view own.old).put ++ (deque_account deque).put) ((worker_view own.old).taken ++ (deque_account deque).taken) }
+    ensures same { (worker_deque own.new ≡ worker_deque own.old) ×
+        (worker_flavor own.new ≡ worker_flavor own.old) }
+    ensures rule { worker_view own.new ≡ account ((worker_view own.old).parts + 1)
+        ((worker_view own.old).put ++ (deque_account deque).put)
+        ((worker_view own.old).taken ++ (deque_account deque).taken) }
 {
     let OtherDeque { stealer, pass } = deque;
     drop(stealer);
@@ -65,7 +69,9 @@ fn join_queue(keeper: &mut QueueKeeper, queue: SharedQueue)
     requires more { 0 < (keeper_account keeper.old).parts }
     requires is { queue_id queue ≡ keeper_queue keeper.old }
     ensures same { keeper_queue keeper.new ≡ keeper_queue keeper.old }
-    ensures rule { keeper_account keeper.new ≡ account ((keeper_account keeper.old).parts + 1) ((keeper_account keeper.old).put ++ (queue_account queue).put) ((keeper_account keeper.old).taken ++ (queue_account queue).taken) }
+    ensures rule { keeper_account keeper.new ≡ account ((keeper_account keeper.old).parts + 1)
+        ((keeper_account keeper.old).put ++ (queue_account queue).put)
+        ((keeper_account keeper.old).taken ++ (queue_account queue).taken) }
 {
     let SharedQueue { mailbox, pass } = queue;
     drop(mailbox);
@@ -89,7 +95,8 @@ fn keep<T: Drop, R: Wait>(rt: &R, left: &mut Vec<T>, value: T)
 fn drain_owner<R: Wait>(rt: &R, own: &mut DequeOwner, left: &mut Vec<Ticket>)
     requires parts { (worker_view own.old).parts ≡ 128 }
     requires fifo { worker_flavor own.old ≡ 0 }
-    ensures { (h : Ticket → ℕ) → weigh h (worker_view own.old).put + weigh h left.old.items ≡ weigh h (worker_view own.old).taken + weigh h left.new.items }
+    ensures { (h : Ticket → ℕ) → weigh h (worker_view own.old).put + weigh h left.old.items ≡ weigh
+        h (worker_view own.old).taken + weigh h left.new.items }
 {
     for _ in rt.forever() {
         match own.pop_as::<Took>() {
@@ -102,7 +109,8 @@ fn drain_owner<R: Wait>(rt: &R, own: &mut DequeOwner, left: &mut Vec<Ticket>)
 // Takes all that a queue holds.
 fn drain_keeper<R: Wait>(rt: &R, keeper: &mut QueueKeeper, left: &mut Vec<Ticket>)
     requires parts { (keeper_account keeper.old).parts ≡ 128 }
-    ensures { (h : Ticket → ℕ) → weigh h (keeper_account keeper.old).put + weigh h left.old.items ≡ weigh h (keeper_account keeper.old).taken + weigh h left.new.items }
+    ensures { (h : Ticket → ℕ) → weigh h (keeper_account keeper.old).put + weigh h left.old.items ≡
+        weigh h (keeper_account keeper.old).taken + weigh h left.new.items }
 {
     for _ in rt.forever() {
         match keeper.mailbox.queue.pop_as::<Took, R>(rt, &mut keeper.pass) {
@@ -120,8 +128,10 @@ fn join_deques(owners: &mut Vec<DequeOwner>, deques: Vec<OtherDeque>, parts: u64
     ensures same { map worker_deque owners.new.items ≡ map worker_deque owners.old.items }
     ensures parts { HaveParts owner_account (parts + 1) owners.new.items }
     ensures fifo { AllFifo owners.new.items }
-    ensures put { (h : Ticket → ℕ) → puts owner_account h owners.new.items ≡ puts owner_account h owners.old.items + puts deque_account h deques.items }
-    ensures taken { (h : Ticket → ℕ) → takes owner_account h owners.new.items ≡ takes owner_account h owners.old.items + takes deque_account h deques.items }
+    ensures put { (h : Ticket → ℕ) → puts owner_account h owners.new.items ≡ puts owner_account h
+        owners.old.items + puts deque_account h deques.items }
+    ensures taken { (h : Ticket → ℕ) → takes owner_account h owners.new.items ≡ takes owner_account
+        h owners.old.items + takes deque_account h deques.items }
 {
     let mut deques = deques;
     while let Some(deque) = deques.pop() {
@@ -135,8 +145,10 @@ fn join_queues(keepers: &mut Vec<QueueKeeper>, queues: Vec<SharedQueue>, parts: 
     requires parts { HaveParts keeper_account parts keepers.old.items × (0 < parts) }
     ensures same { map keeper_queue keepers.new.items ≡ map keeper_queue keepers.old.items }
     ensures parts { HaveParts keeper_account (parts + 1) keepers.new.items }
-    ensures put { (h : Ticket → ℕ) → puts keeper_account h keepers.new.items ≡ puts keeper_account h keepers.old.items + puts queue_account h queues.items }
-    ensures taken { (h : Ticket → ℕ) → takes keeper_account h keepers.new.items ≡ takes keeper_account h keepers.old.items + takes queue_account h queues.items }
+    ensures put { (h : Ticket → ℕ) → puts keeper_account h keepers.new.items ≡ puts keeper_account
+        h keepers.old.items + puts queue_account h queues.items }
+    ensures taken { (h : Ticket → ℕ) → takes keeper_account h keepers.new.items ≡ takes
+        keeper_account h keepers.old.items + takes queue_account h queues.items }
 {
     let mut queues = queues;
     while let Some(queue) = queues.pop() {
@@ -149,7 +161,8 @@ fn join_queues(keepers: &mut Vec<QueueKeeper>, queues: Vec<SharedQueue>, parts: 
 fn drain_owners<R: Wait>(rt: &R, owners: Vec<DequeOwner>, left: &mut Vec<Ticket>)
     requires parts { HaveParts owner_account 128 owners.items }
     requires fifo { AllFifo owners.items }
-    ensures { (h : Ticket → ℕ) → puts owner_account h owners.items + weigh h left.old.items ≡ takes owner_account h owners.items + weigh h left.new.items }
+    ensures { (h : Ticket → ℕ) → puts owner_account h owners.items + weigh h left.old.items ≡ takes
+        owner_account h owners.items + weigh h left.new.items }
 {
     let mut owners = owners;
     while let Some(own) = owners.pop() {
@@ -160,7 +173,8 @@ fn drain_owners<R: Wait>(rt: &R, owners: Vec<DequeOwner>, left: &mut Vec<Ticket>
 
 fn drain_keepers<R: Wait>(rt: &R, keepers: Vec<QueueKeeper>, left: &mut Vec<Ticket>)
     requires parts { HaveParts keeper_account 128 keepers.items }
-    ensures { (h : Ticket → ℕ) → puts keeper_account h keepers.items + weigh h left.old.items ≡ takes keeper_account h keepers.items + weigh h left.new.items }
+    ensures { (h : Ticket → ℕ) → puts keeper_account h keepers.items + weigh h left.old.items ≡
+        takes keeper_account h keepers.items + weigh h left.new.items }
 {
     let mut keepers = keepers;
     while let Some(keeper) = keepers.pop() {
@@ -213,10 +227,15 @@ fn gather<R: Wait>(
     left: &mut Vec<Ticket>,
 )
     requires fits { (0 < length rests.items) × (length rests.items ≤ 64) }
-    requires rests { AllRests (map worker_deque owners.items) (map keeper_queue keepers.items) rests.items }
+    requires rests { AllRests (map worker_deque owners.items) (map keeper_queue keepers.items)
+        rests.items }
     requires fifo { AllFifo owners.items }
-    requires parts { (p : ℕ) → p + length rests.items ≡ 128 → HaveParts owner_account p owners.items × HaveParts keeper_account p keepers.items }
-    ensures { (h : Ticket → ℕ) → puts owner_account h owners.items + puts keeper_account h keepers.items + rests_put h rests.items + weigh h left.old.items ≡ takes owner_account h owners.items + takes keeper_account h keepers.items + rests_taken h rests.items + weigh h left.new.items }
+    requires parts { (p : ℕ) → p + length rests.items ≡ 128 → HaveParts owner_account p
+        owners.items × HaveParts keeper_account p keepers.items }
+    ensures { (h : Ticket → ℕ) → puts owner_account h owners.items + puts keeper_account h
+        keepers.items + rests_put h rests.items + weigh h left.old.items ≡ takes owner_account h
+        owners.items + takes keeper_account h keepers.items + rests_taken h rests.items + weigh h
+        left.new.items }
 {
     let mut owners = owners;
     let mut keepers = keepers;

@@ -24,7 +24,8 @@ impl Pool {
         requires machines { (0 < machines) × (machines ≤ 16) }
         requires workers { (0 < workers) × (workers ≤ 4) }
         ensures hands { IfOk result (λ r. AllHands r.0 r.1.items) }
-        ensures none { IfOk result (λ r. (h : Ticket → ℕ) → (all_put h r.1.items ≡ 0) × (all_taken h r.1.items ≡ 0)) }
+        ensures none { IfOk result (λ r. (h : Ticket → ℕ) → (all_put h r.1.items ≡ 0) ×
+            (all_taken h r.1.items ≡ 0)) }
         ensures queues { IfOk result (λ r. length r.0.keepers.items ≡ machines) }
         ensures count { IfOk result (λ r. length r.1.items ≡ machines * workers) }
         ensures homes { IfOk result (λ r. AreAtHome workers r.1.items) }
@@ -55,7 +56,10 @@ fn new_deque(own: &mut DequeOwner) -> Result<OtherDeque, AllocError>
     requires more { 1 < (worker_view own.old).parts }
     requires fifo { worker_flavor own.old ≡ 0 }
     ensures same { (worker_deque own.new ≡ worker_deque own.old) × (worker_flavor own.new ≡ 0) }
-    ensures deque { IfOk result (λ l. (deque_id l ≡ worker_deque own.old) × (deque_account l ≡ account 1 [] []) × ((worker_view own.new).parts + 1 ≡ (worker_view own.old).parts) × ((worker_view own.new).put ≡ (worker_view own.old).put) × ((worker_view own.new).taken ≡ (worker_view own.old).taken)) }
+    ensures deque { IfOk result (λ l. (deque_id l ≡ worker_deque own.old) ×
+        (deque_account l ≡ account 1 [] []) × ((worker_view own.new).parts + 1 ≡
+        (worker_view own.old).parts) × ((worker_view own.new).put ≡ (worker_view own.old).put) ×
+        ((worker_view own.new).taken ≡ (worker_view own.old).taken)) }
 {
     let stealer = own.stealer()?;
     let pass = own.another::<Parts>();
@@ -65,7 +69,11 @@ fn new_deque(own: &mut DequeOwner) -> Result<OtherDeque, AllocError>
 fn new_queue(keeper: &mut QueueKeeper) -> Result<SharedQueue, AllocError>
     requires { 1 < (keeper_account keeper.old).parts }
     ensures same { keeper_queue keeper.new ≡ keeper_queue keeper.old }
-    ensures queue { IfOk result (λ s. (queue_id s ≡ keeper_queue keeper.old) × (queue_account s ≡ account 1 [] []) × ((keeper_account keeper.new).parts + 1 ≡ (keeper_account keeper.old).parts) × ((keeper_account keeper.new).put ≡ (keeper_account keeper.old).put) × ((keeper_account keeper.new).taken ≡ (keeper_account keeper.old).taken)) }
+    ensures queue { IfOk result (λ s. (queue_id s ≡ keeper_queue keeper.old) ×
+        (queue_account s ≡ account 1 [] []) × ((keeper_account keeper.new).parts + 1 ≡
+        (keeper_account keeper.old).parts) × ((keeper_account keeper.new).put ≡
+        (keeper_account keeper.old).put) × ((keeper_account keeper.new).taken ≡
+        (keeper_account keeper.old).taken)) }
 {
     let mailbox = Arc::try_clone(&keeper.mailbox)?;
     let pass = keeper.mailbox.queue.another::<Parts>(&mut keeper.pass);
@@ -76,7 +84,8 @@ fn make(alloc: Global, machines: usize, workers: usize) -> Result<(Pool, Vec<Han
     requires machines { (0 < machines) × (machines ≤ 16) }
     requires workers { (0 < workers) × (workers ≤ 4) }
     ensures hands { IfOk result (λ r. AllHands r.0 r.1.items) }
-    ensures none { IfOk result (λ r. (h : Ticket → ℕ) → (all_put h r.1.items ≡ 0) × (all_taken h r.1.items ≡ 0)) }
+    ensures none { IfOk result (λ r. (h : Ticket → ℕ) → (all_put h r.1.items ≡ 0) ×
+        (all_taken h r.1.items ≡ 0)) }
     ensures queues { IfOk result (λ r. length r.0.keepers.items ≡ machines) }
     ensures count { IfOk result (λ r. length r.1.items ≡ machines * workers) }
     ensures homes { IfOk result (λ r. AreAtHome workers r.1.items) }
@@ -137,11 +146,17 @@ fn new_rests(
     keepers: &mut Vec<QueueKeeper>,
     count: usize,
 ) -> Result<Vec<Rest>, AllocError>
-    requires fresh { Every (λ x. owner_account x ≡ account 128 [] []) owners.old.items × Every (λ x. keeper_account x ≡ account 128 [] []) keepers.old.items × (count ≤ 64) }
+    requires fresh { Every (λ x. owner_account x ≡ account 128 [] []) owners.old.items × Every
+        (λ x. keeper_account x ≡ account 128 [] []) keepers.old.items × (count ≤ 64) }
     requires fifo { AllFifo owners.old.items }
-    ensures same { IfOk result (λ _. (map worker_deque owners.new.items ≡ map worker_deque owners.old.items) × (map keeper_queue keepers.new.items ≡ map keeper_queue keepers.old.items) × AllFifo owners.new.items) }
-    ensures logs { IfOk result (λ _. Every (λ x. owner_account x ≡ account (128 - count) [] []) owners.new.items × Every (λ x. keeper_account x ≡ account (128 - count) [] []) keepers.new.items) }
-    ensures rests { IfOk result (λ xs. (length xs.items ≡ count) × AllRests (map worker_deque owners.old.items) (map keeper_queue keepers.old.items) xs.items) }
+    ensures same { IfOk result (λ _. (map worker_deque owners.new.items ≡ map worker_deque
+        owners.old.items) × (map keeper_queue keepers.new.items ≡ map keeper_queue
+        keepers.old.items) × AllFifo owners.new.items) }
+    ensures logs { IfOk result (λ _. Every (λ x. owner_account x ≡ account (128 - count) [] [])
+        owners.new.items × Every (λ x. keeper_account x ≡ account (128 - count) [] [])
+        keepers.new.items) }
+    ensures rests { IfOk result (λ xs. (length xs.items ≡ count) × AllRests
+        (map worker_deque owners.old.items) (map keeper_queue keepers.old.items) xs.items) }
     ensures unused { IfOk result (λ xs. (h : Ticket → ℕ) → Every (Unused h) xs.items) }
 {
     let mut rests = Vec::new(alloc);
@@ -194,12 +209,16 @@ fn new_hands(
     requires few { length owners.items ≤ 64 }
     requires queues { length owners.items ≡ length keepers.now.items * workers }
     requires fifo { AllFifo owners.items }
-    requires fresh { Every (λ x. owner_account x ≡ account (128 - length owners.items) [] []) owners.items }
-    requires rests { AllRests (map worker_deque owners.items) (map keeper_queue keepers.now.items) rests.items }
+    requires fresh { Every (λ x. owner_account x ≡ account (128 - length owners.items) [] [])
+        owners.items }
+    requires rests { AllRests (map worker_deque owners.items) (map keeper_queue keepers.now.items)
+        rests.items }
     requires unused { (h : Ticket → ℕ) → Every (Unused h) rests.items }
     ensures owners { IfOk result (λ xs. map owner_of xs.items ≡ owners.items) }
-    ensures rests { IfOk result (λ xs. HaveAll (map worker_deque owners.items) (map keeper_queue keepers.now.items) xs.items) }
-    ensures none { IfOk result (λ xs. (h : Ticket → ℕ) → (all_put h xs.items ≡ 0) × (all_taken h xs.items ≡ 0)) }
+    ensures rests { IfOk result (λ xs. HaveAll (map worker_deque owners.items)
+        (map keeper_queue keepers.now.items) xs.items) }
+    ensures none { IfOk result (λ xs. (h : Ticket → ℕ) → (all_put h xs.items ≡ 0) ×
+        (all_taken h xs.items ≡ 0)) }
     ensures homes { IfOk result (λ xs. AreAtHome workers xs.items) }
 {
     let mut hands = Vec::new(alloc);
@@ -220,13 +239,17 @@ fn new_deques(
     owners: &mut Vec<DequeOwner>,
     parts: u64,
 ) -> Result<Vec<OtherDeque>, AllocError>
-    requires parts { Every (λ x. owner_account x ≡ account parts [] []) owners.old.items × (1 < parts) }
+    requires parts { Every (λ x. owner_account x ≡ account parts [] []) owners.old.items ×
+        (1 < parts) }
     requires fifo { AllFifo owners.old.items }
-    ensures same { IfOk result (λ _. map worker_deque owners.new.items ≡ map worker_deque owners.old.items) }
+    ensures same { IfOk result (λ _. map worker_deque owners.new.items ≡ map worker_deque
+        owners.old.items) }
     ensures fifo { IfOk result (λ _. AllFifo owners.new.items) }
-    ensures parts { IfOk result (λ _. Every (λ x. owner_account x ≡ account (parts - 1) [] []) owners.new.items) }
+    ensures parts { IfOk result (λ _. Every (λ x. owner_account x ≡ account (parts - 1) [] [])
+        owners.new.items) }
     ensures deques { IfOk result (λ xs. map deque_id xs.items ≡ map worker_deque owners.old.items) }
-    ensures logs { IfOk result (λ xs. (h : Ticket → ℕ) → (puts deque_account h xs.items ≡ 0) × (takes deque_account h xs.items ≡ 0)) }
+    ensures logs { IfOk result (λ xs. (h : Ticket → ℕ) → (puts deque_account h xs.items ≡ 0) ×
+        (takes deque_account h xs.items ≡ 0)) }
 {
     let mut deques = Vec::new(alloc);
     for k in 0..owners.len() {
@@ -241,11 +264,15 @@ fn new_queues(
     keepers: &mut Vec<QueueKeeper>,
     parts: u64,
 ) -> Result<Vec<SharedQueue>, AllocError>
-    requires parts { Every (λ x. keeper_account x ≡ account parts [] []) keepers.old.items × (1 < parts) }
-    ensures same { IfOk result (λ _. map keeper_queue keepers.new.items ≡ map keeper_queue keepers.old.items) }
-    ensures parts { IfOk result (λ _. Every (λ x. keeper_account x ≡ account (parts - 1) [] []) keepers.new.items) }
+    requires parts { Every (λ x. keeper_account x ≡ account parts [] []) keepers.old.items ×
+        (1 < parts) }
+    ensures same { IfOk result (λ _. map keeper_queue keepers.new.items ≡ map keeper_queue
+        keepers.old.items) }
+    ensures parts { IfOk result (λ _. Every (λ x. keeper_account x ≡ account (parts - 1) [] [])
+        keepers.new.items) }
     ensures queues { IfOk result (λ xs. map queue_id xs.items ≡ map keeper_queue keepers.old.items) }
-    ensures logs { IfOk result (λ xs. (h : Ticket → ℕ) → (puts queue_account h xs.items ≡ 0) × (takes queue_account h xs.items ≡ 0)) }
+    ensures logs { IfOk result (λ xs. (h : Ticket → ℕ) → (puts queue_account h xs.items ≡ 0) ×
+        (takes queue_account h xs.items ≡ 0)) }
 {
     let mut queues = Vec::new(alloc);
     for k in 0..keepers.len() {

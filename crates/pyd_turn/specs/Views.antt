@@ -8,6 +8,7 @@ use Rattle.pyd_turn.specs.declared.view.Stage.TheVariants.{Idle, Waits, Holds, S
 use Rattle.pyd_turn.specs.declared.view.Tally.{Tally}
 use Rattle.pyd_turn.specs.declared.view.View.{View}
 
+-- a seat that isn't spent
 abbrev pub lives : Stage → Bool
 lives Idle = true
 lives (Waits _) = true
@@ -68,6 +69,7 @@ with_one_more v = record v { made = v.made + 1 }
 abbrev pub newcomer : View → View
 newcomer v = record { name = v.name; seen = v.seen; when = v.when; number = v.made; own = 0; made = 0; joined = []; earlier = v.seen; stage = Idle }
 
+-- the first of two where the test holds, else the second
 abbrev pub either_of : {A : Type 0} → Bool → A → A → A
 either_of true a b = a
 either_of false a b = b

@@ -1,3 +1,4 @@
+//! Races of seats at one lock.
 ghost use Rattle.std.specs.Prelude.{◌≡◌, ◌+◌, ◌^◌, ◌<◌};
 ghost use Rattle.pyd_turn.specs.Seats.{IsFree, IsSame, IsSeatOf, joined, made, number};
 

@@ -93,6 +93,7 @@ abbrev pub ConcludesSource : List ℕ → Option (List ℕ) → Option (List ℕ
 ConcludesSource input held held_after c = (words : List (String Global)) (left left_after : Option (List ℕ)) → IsRun words → Emptied left left_after
     → Concludes words input (record { left = left; left_after = left_after; held = held; held_after = held_after }) c
 
+-- the status of a conclusion
 abbrev pub status_of : Conclusion → Status
 status_of conclusion.Done = status.Done
 status_of (conclusion.Limit l line) = status.Limit
@@ -103,6 +104,7 @@ status_of conclusion.ReadFault = status.ReadFault
 status_of conclusion.SinkFault = status.SinkFault
 status_of conclusion.NoMemory = status.NoMemory
 
+-- what the error line calls a limit
 abbrev pub limit_text : Limit → List ℕ
 limit_text limit.Turn = codes "LIMIT TurnLimit"
 limit_text limit.Depth = codes "LIMIT DepthLimit"

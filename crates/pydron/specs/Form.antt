@@ -16,9 +16,11 @@ pub record Addend : Type 0 where
   pub behind : ℕ
   pub digits : List ℕ
 
+-- the characters of a `+`, its spaces and its digits
 abbrev pub addend_text : Addend → List ℕ
 addend_text a = replicate a.before 32 ++ 43 ∷ replicate a.behind 32 ++ a.digits
 
+-- the characters of all of them
 abbrev pub addends_text : List Addend → List ℕ
 addends_text addends = flat_map addend_text addends
 

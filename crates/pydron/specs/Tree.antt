@@ -46,6 +46,7 @@ pub record IsPrintTree (line : ℕ) (s : Sum) (stmt : Stmt) : Type 0 where
   pub call_is : out-Expr call ≡ Expr-F.Call (codes "print") (argument ∷ [])
   pub argument_is : IsSumTree s s.addends argument
 
+-- an item is the tree of a sum in a line
 abbrev pub IsItemTree : ℕ → Sum → Item → Type 0
 IsItemTree line s (item.Stmt stmt) = IsPrintTree line s stmt
 IsItemTree line s _ = ⊥

@@ -12,7 +12,8 @@ use pyd_value::Limit;
 /// Puts the error line of a conclusion, none where there is nothing to say.
 pub(crate) fn put_error<E: Sink>(err: &mut E, conclusion: Conclusion) -> Result<(), Short>
     ensures ok { OnOk result (Added (E.held err.old) (error_of conclusion) (E.held err.new)) }
-    ensures err { OnErr result (AddedPrefix (E.held err.old) (error_of conclusion) (E.held err.new)) }
+    ensures err { OnErr result (AddedPrefix (E.held err.old) (error_of conclusion)
+        (E.held err.new)) }
     ensures cause { Counted (E.faults err.old) (E.faults err.new) (IsErr result) }
 {
     match conclusion {
@@ -42,7 +43,8 @@ fn limit_name(limit: Limit) -> &'static [u8]
 /// Puts a text, the line that it speaks of, and a newline.
 fn put_in_line<E: Sink>(err: &mut E, text: &[u8], line: u32) -> Result<(), Short>
     ensures ok { OnOk result (Added (E.held err.old) (in_line text.now line) (E.held err.new)) }
-    ensures err { OnErr result (AddedPrefix (E.held err.old) (in_line text.now line) (E.held err.new)) }
+    ensures err { OnErr result (AddedPrefix (E.held err.old) (in_line text.now line)
+        (E.held err.new)) }
     ensures cause { Counted (E.faults err.old) (E.faults err.new) (IsErr result) }
 {
     let mut buffer = Buffer::new();

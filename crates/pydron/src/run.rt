@@ -27,7 +27,12 @@ pub fn pydron_here<S: Source, K: Sink, E: Sink>(
 ) -> Ended<K>
     // An input and a conclusion explain what is left, held and answered (specs/Conclusion.antt).
     ensures run { IsRunOf words.now result.status
-        (record { left = S.left source.old; left_after = S.left source.new; held = K.held out; held_after = K.held result.out })
+        (record {
+          left = S.left source.old;
+          left_after = S.left source.new;
+          held = K.held out;
+          held_after = K.held result.out;
+        })
         (E.held err.old) (E.held err.new) }
 
     // A failure of the outside is answered only where a count of faults rose.
@@ -65,8 +70,14 @@ fn conclude<S: Source, K: Sink>(
     source: &mut S,
     out: &mut K,
 ) -> Conclusion
-    ensures concludes { (input : List ℕ) × IsInput (S.left source.old) input × Concludes words.now input
-        (record { left = S.left source.old; left_after = S.left source.new; held = K.held out.old; held_after = K.held out.new })
+    ensures concludes { (input : List ℕ) × IsInput (S.left source.old) input × Concludes words.now
+        input
+        (record {
+          left = S.left source.old;
+          left_after = S.left source.new;
+          held = K.held out.old;
+          held_after = K.held out.new;
+        })
         result }
     ensures read_fault { Counted (S.faults source.old) (S.faults source.new)
         (result ≡ Conclusion.ReadFault) }

@@ -1,3 +1,4 @@
+//! The program over memory: scripts, their output, error lines and statuses.
 ghost use Rattle.std.specs.Prelude.{◌≤◌, ◌-◌, ◌^◌, Contains, IfOk};
 
 use crate::{Status, pydron_here};
