@@ -1,0 +1,28 @@
+-- An expansion made by its action is one step back.
+use Rattle.std.proofs.Common.{◌≡◌, ℕ, ◌<◌, List, ◌∷◌, length, drop, refl, sym, ap, ap₂, subst, ◌∙◌}
+use Rattle.std.proofs.lemmas.Bool.{and_parts, eqb-true}
+use Rattle.pyd_lex.specs.declared.token.Token.{Token}
+use Rattle.pyd_syntax.specs.declared.step.Step.{Step}
+use Rattle.pyd_syntax.specs.declared.step.Step.TheVariants.{Expand}
+use Rattle.pyd_derivation.specs.declared.piece.Piece.{Piece}
+use Rattle.pyd_derivation.specs.Forms.{Action, apply, arity, does, symbols}
+use Rattle.pyd_derivation.specs.Productions.{grammar}
+use Rattle.pyd_derivation.specs.Derivation.{line_of}
+use Rattle.pyd_derivation.specs.Reading.{Back, MayBack, expanded}
+use Rattle.pyd_derivation.proofs.Forms.{fit_at}
+use Rattle.pyd_derivation.proofs.Law.{grammar_fits}
+
+pub parts_of : (p : ℕ) → p < length grammar → length (symbols grammar p) ≡ arity (does grammar p)
+parts_of p l = eqb-true _ _ (and_parts _ _ (fit_at grammar p grammar_fits l)).0
+
+made : (bytes : List ℕ) (p line l : ℕ) (a : Action) (vs us new : List Piece) (piece : Piece) → p < length grammar → a ≡ does grammar p → line ≡ l →
+    piece ≡ apply a bytes line vs → us ≡ drop (arity a) vs → new ≡ piece ∷ us → new ≡ expanded grammar bytes p l vs
+made bytes p line l a vs us new piece w e f g h n =
+    n ∙ ap₂ (λ (x : Piece) (y : List Piece). x ∷ y) (g ∙ ap₂ (λ (x : Action) (y : ℕ). apply x bytes y vs) e f) (h ∙ ap (λ (z : ℕ). drop z vs) (ap arity e ∙ sym (parts_of p w)))
+
+pub expanding : (bytes : List ℕ) (ts : List Token) (step : Step) (p at line : ℕ) (a : Action) (vs us new : List Piece) (piece : Piece) → step ≡ Expand p → MayBack grammar ts step at → a ≡ does grammar p →
+    line ≡ line_of (drop at ts) → piece ≡ apply a bytes line vs → us ≡ drop (arity a) vs → new ≡ piece ∷ us → Back grammar bytes ts step vs at new at
+expanding bytes ts step p at line a vs us new piece s m e f g h n =
+    let w : p < length grammar = subst (λ (z : Step). MayBack grammar ts z at) s m in
+    let done : Back grammar bytes ts (Expand p) vs at new at = (refl, made bytes p line (line_of (drop at ts)) a vs us new piece w e f g h n) in
+    subst (λ (z : Step). Back grammar bytes ts z vs at new at) (sym s) done

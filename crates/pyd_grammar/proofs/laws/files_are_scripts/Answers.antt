@@ -1,5 +1,0 @@
-use Rattle.pyd_grammar.proofs.Single.{as_scripts}
-use Rattle.pyd_grammar.proofs.laws.files_are_scripts.Goals as goal
-
-pub returns : goal.returns
-returns c = as_scripts

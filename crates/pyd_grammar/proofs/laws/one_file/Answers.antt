@@ -1,5 +1,0 @@
-use Rattle.pyd_grammar.proofs.Single.{one_from}
-use Rattle.pyd_grammar.proofs.laws.one_file.Goals as goal
-
-pub returns : goal.returns
-returns c = one_from c.one_derivation.ensures

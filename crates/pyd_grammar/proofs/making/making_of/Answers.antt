@@ -1,7 +1,0 @@
-use Rattle.std.proofs.Common.{arith}
-use Rattle.pyd_grammar.specs.Productions.{grammar}
-use Rattle.pyd_grammar.proofs.making.making_of.Goals as goal
-
-pub atom_making-requires-clause-last : goal.atom_making-requires-clause-last
-unfolding grammar
-atom_making-requires-clause-last c = omega (arith, c.requires)
