@@ -270,7 +270,8 @@ fn new_queues(
         keepers.old.items) }
     ensures parts { IfOk result (λ _. Every (λ x. keeper_account x ≡ account (parts - 1) [] [])
         keepers.new.items) }
-    ensures queues { IfOk result (λ xs. map queue_id xs.items ≡ map keeper_queue keepers.old.items) }
+    ensures queues { IfOk result (λ xs.
+        map queue_id xs.items ≡ map keeper_queue keepers.old.items) }
     ensures logs { IfOk result (λ xs. (h : Ticket → ℕ) → (puts queue_account h xs.items ≡ 0) ×
         (takes queue_account h xs.items ≡ 0)) }
 {
