@@ -1,0 +1,10 @@
+use Rattle.std.proofs.Common.{rules, ◌≡◌, ◌∙◌, ap, IfOk, map, fold}
+use Rattle.std.proofs.lemmas.Result.{IfOk-weaker}
+use Rattle.clap.specs.Words.{app_of}
+use Rattle.pyd_words.specs.Command.{app, bare_app, with_choice, option_rule}
+use Rattle.pyd_words.specs.Options.{options}
+use Rattle.pyd_words.proofs.command.command.Goals as goal
+
+pub returns : goal.returns
+unfolding app
+returns c = ?
