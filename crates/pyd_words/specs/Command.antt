@@ -27,9 +27,13 @@ app = fold with_choice bare_app options
 abbrev pub all_words : List Text → List Text
 all_words words = codes "pydron" ∷ words
 
--- whether the definition finds a fault in the words; a wish for help is one
+-- whether the definition finds a fault in all the words; a wish for help is one
+abbrev pub has_fault : List Text → Bool
+has_fault all = not (length (fault_of app all) == 0)
+
+-- whether the words are no command line
 abbrev pub is_refused : List Text → Bool
-is_refused words = not (length (fault_of app (all_words words)) == 0)
+is_refused words = has_fault (all_words words)
 
 -- what the words give, if they are not refused
 abbrev pub given : List Text → List Row

@@ -1,7 +1,8 @@
 -- Numbers among the words.
 use Rattle.std.specs.Prelude.{ℕ, ◌-◌, ◌^◌, ◌&&◌, Bool, length, nat_lt, nat_le, Option, Some, None, if◌then◌else◌, option_and_then}
 use Rattle.std.specs.Prelude.{Result, Ok, Err}
-use Rattle.std.specs.Str.{all_ascii_digits}
+use Rattle.std.specs.Char.{is_ascii_digit}
+use Rattle.std.specs.List.{list_all}
 use Rattle.std.specs.Str.Parse.{digits_value}
 use Rattle.pyd_words.specs.declared.fault.WordsFault.{WordsFault}
 use Rattle.pyd_words.specs.declared.fault.WordsFault.TheVariants.{BadNumber, OutOfRange}
@@ -21,7 +22,7 @@ most_in_script = 2 ^ 32 - 1
 
 -- from 1 to so many digits, and nothing else
 abbrev pub is_digits : ℕ → Text → Bool
-is_digits most z = nat_lt 0 (length z) && (nat_le (length z) most && all_ascii_digits z)
+is_digits most z = nat_lt 0 (length z) && (nat_le (length z) most && list_all is_ascii_digit z)
 
 -- the number of a text that has from 1 to so many digits
 abbrev pub number_of : ℕ → Text → Option ℕ

@@ -23,9 +23,13 @@ abbrev pub ◌>>=◌ : {A B : Type 0} → Result A WordsFault → (A → Result 
 Ok x >>= next = next x
 Err e >>= next = Err e
 
+-- what the row with this name has
+abbrev pub named : List (Text × Mode) → Text → Option Mode
+named rows z = option_map (λ row. row.1) (find (λ row. bytes_eq row.0 z) rows)
+
 -- the mode of this name
 abbrev pub mode_of : Text → Option Mode
-mode_of z = option_map (λ row. row.1) (find (λ row. bytes_eq row.0 z) modes)
+mode_of = named modes
 
 -- the mode that is given
 abbrev pub mode_in : List Row → Result Mode WordsFault
@@ -49,9 +53,13 @@ number_in o rows = option_map_or (ranged o) (value o.name rows) (Ok o.usual)
 abbrev pub near_in : List Row → Bool
 near_in rows = option_map_or (λ z. bytes_eq z (codes "near")) (value (codes "place") rows) false
 
--- the losses of the script as written, none where no script is given
-abbrev pub written : List Row → Result (List Loss) WordsFault
-written rows = option_map_or (λ z. ok_or (script z) BadScript) (value (codes "lose") rows) (Ok [])
+-- the losses of a script, in order
+abbrev pub losses_of : ℕ → Text → Result (List Loss) WordsFault
+losses_of m z = ok_or (script z) BadScript >>= ordered m
+
+-- the losses of the script in order, none where no script is given
+abbrev pub losses_in : ℕ → List Row → Result (List Loss) WordsFault
+losses_in m rows = option_map_or (losses_of m) (value (codes "lose") rows) (ordered m [])
 
 -- whether the mode runs the generated source, of which a number is asked
 abbrev pub wants_number : Mode → Bool
@@ -79,7 +87,7 @@ settings mode rows = do
   d ← number_in depth rows
   win ← number_in window rows
   n ← number_in number rows
-  ls ← written rows >>= ordered m
+  ls ← losses_in m rows
   if number_stands mode rows
       then Ok (record { mode = mode; machines = m; workers = w; turns = t; depth = d; window = win; near = near_in rows; losses = ls; number = n })
       else Err NumberWhere

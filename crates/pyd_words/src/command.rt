@@ -1,11 +1,14 @@
 //! The command, as `clap` is told of it.
-ghost use Rattle.std.specs.Prelude.{◌≡◌, IfOk, fold, map};
-ghost use Rattle.clap.specs.Words.{app_of, with_rule};
+ghost use Rattle.std.specs.Prelude.{◌≡◌, IfOk, IfErr, fold, map, false, option_map, string_bytes};
+ghost use Rattle.clap.specs.Words.{app_of, found_of, kind_of, matches_of, rows_of, with_rule};
+ghost use Rattle.pyd_words.specs.Answers.{IsStopOf, StopsLine};
 ghost use Rattle.pyd_words.specs.Command as spec;
 ghost use Rattle.pyd_words.specs.Rows.{choice_of};
 
 use crate::options::{Choice, OPTIONS};
-use clap::{Arg, Command};
+use crate::fault::{WordsFault, WordsStop};
+use clap::error::ErrorKind;
+use clap::{Arg, ArgMatches, Command, Error};
 use std::alloc::{AllocError, Global};
 
 /// The name of the program, which stands before the words.
@@ -14,8 +17,54 @@ pub const PROGRAM: &str = "pydron";
 /// The name of the positional argument.
 pub const MODE: &str = "mode";
 
+/// The words behind the program's name.
+pub fn all_words<'a>(alloc: Global, words: &'a [String]) -> Result<Vec<&'a str>, AllocError>
+    ensures { IfOk result (λ all.
+        map (λ z. z.now) all.items ≡ spec.all_words (map string_bytes words.entry.now)) }
+{
+    let mut all = Vec::new(alloc);
+    all.push(PROGRAM)?;
+    for word in words {
+        all.push(word.as_str())?;
+    }
+    Ok(all)
+}
+
+/// What `clap` makes of all the words by the command's definition.
+pub fn matches<'a>(alloc: Global, all: &'a [&'a str]) -> Result<ArgMatches<'a>, WordsStop>
+    ensures taken { IfOk result (λ m. spec.has_fault (map (λ z. z.now) all.entry.now) ≡ false) }
+    ensures rows { IfOk result (λ m.
+        rows_of (found_of m) ≡ matches_of spec.app (map (λ z. z.now) all.entry.now)) }
+    ensures err { IfErr result (StopsLine (spec.has_fault (map (λ z. z.now) all.entry.now))) }
+{
+    let command = command(alloc)?;
+    match command.try_get_matches_from(all) {
+        Ok(matches) => Ok(matches),
+        Err(error) => Err(stop_of(&error)),
+    }
+}
+
+/// Want of memory, or words that are no command line.
+fn stop_of(error: &Error) -> WordsStop
+    ensures { IsStopOf (kind_of error.now) result }
+{
+    if error.kind() == ErrorKind::OutOfMemory {
+        WordsStop::NoMemory
+    } else {
+        WordsStop::Fault(WordsFault::Line)
+    }
+}
+
+/// The value that is given under this name.
+pub fn value<'a>(matches: &ArgMatches<'a>, name: &str) -> Option<&'a str>
+    ensures { option_map (λ z. z.now) result
+        ≡ spec.value name.now (rows_of (found_of matches.now)) }
+{
+    matches.get_str(name)
+}
+
 /// The command with its mode and its options.
-pub fn command<'a>(alloc: Global) -> Result<Command<'a>, AllocError>
+fn command<'a>(alloc: Global) -> Result<Command<'a>, AllocError>
     ensures { IfOk result (λ c. app_of c ≡ spec.app) }
 {
     let command = bare_command(alloc)?;
@@ -29,7 +78,8 @@ fn with_options<'a>(
     options: &[Choice],
 ) -> Result<Command<'a>, AllocError>
     ensures { IfOk result (λ c.
-        app_of c ≡ fold spec.with_choice (app_of command.entry) (map choice_of options.now)) }
+        app_of c ≡ fold (λ app o. spec.with_choice app (choice_of o))
+            (app_of command.entry) options.now) }
 {
     for option in options {
         command = with_option(alloc, command, option.name())?;

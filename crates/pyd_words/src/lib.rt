@@ -3,8 +3,12 @@
 
 mod command;
 mod fault;
+mod losses;
+mod number;
 mod options;
 mod plan;
+mod read;
 
 pub use fault::{WordsFault, WordsStop};
 pub use plan::{Mode, Plan};
+pub use read::read_words;

@@ -3,6 +3,18 @@ ghost use Rattle.std.specs.Prelude.{◌≡◌};
 ghost use Rattle.pyd_words.specs.Options as spec;
 ghost use Rattle.pyd_words.specs.Rows.{choice_of};
 
+use crate::plan::Mode;
+
+/// The modes, each with its name.
+pub const MODES: [(&str, Mode); 6] = [
+    ("run", Mode::Run),
+    ("trace", Mode::Trace),
+    ("check", Mode::Check),
+    ("graph", Mode::Graph),
+    ("replay", Mode::Replay),
+    ("demo", Mode::Demo),
+];
+
 /// An option that takes a number.
 #[derive(Clone, Copy, Debug)]
 pub struct Numeral {
