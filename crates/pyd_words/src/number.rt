@@ -1,5 +1,7 @@
 //! Numbers among the words.
 ghost use Rattle.std.specs.Prelude.{◌≡◌, ◌≤◌, ◌<◌, ◌^◌, IfOk};
+ghost use Rattle.std.specs.Char.{is_ascii_digit};
+ghost use Rattle.std.specs.List.{list_all};
 ghost use Rattle.clap.specs.Words.{found_of, rows_of};
 ghost use Rattle.pyd_words.specs.Numbers as spec;
 ghost use Rattle.pyd_words.specs.Words.{number_in};
@@ -20,7 +22,14 @@ const MOST_SCRIPT_DIGITS: usize = 10;
 pub fn is_digits(most: usize, text: &str) -> bool
     ensures { result ≡ spec.is_digits most text.now }
 {
-    !text.is_empty() && text.len() <= most && text.bytes().all(|b| b.is_ascii_digit())
+    !text.is_empty() && text.len() <= most && are_digits(text)
+}
+
+/// Whether each byte is a digit.
+fn are_digits(text: &str) -> bool
+    ensures { result ≡ list_all is_ascii_digit text.now }
+{
+    text.bytes().all(|b| b.is_ascii_digit())
 }
 
 /// The number of an option, its usual one where none is given.
@@ -30,7 +39,7 @@ pub fn number_in(option: &Numeral, matches: &ArgMatches<'_>) -> Result<u64, Word
     ensures within { IfOk result (λ n. n ≤ option.now.most) }
 {
     match value(matches, option.name) {
-        Some(text) => ranged(option, text),
+        Some(text) => ranged(*option, text),
         None => Ok(option.usual),
     }
 }
@@ -48,9 +57,9 @@ pub fn narrow_in(option: &Numeral, matches: &ArgMatches<'_>) -> Result<u32, Word
 }
 
 /// The number that is the value of an option.
-fn ranged(option: &Numeral, text: &str) -> Result<u64, WordsFault>
-    ensures value { result ≡ spec.ranged (numeral_of option.now) text.now }
-    ensures within { IfOk result (λ n. n ≤ option.now.most) }
+fn ranged(option: Numeral, text: &str) -> Result<u64, WordsFault>
+    ensures value { result ≡ spec.ranged (numeral_of option) text.now }
+    ensures within { IfOk result (λ n. n ≤ option.most) }
 {
     if !is_digits(MOST_DIGITS, text) {
         return Err(WordsFault::BadNumber);
@@ -62,9 +71,9 @@ fn ranged(option: &Numeral, text: &str) -> Result<u64, WordsFault>
 }
 
 /// A number within the limits of its option.
-fn within(option: &Numeral, n: u64) -> Result<u64, WordsFault>
-    ensures value { result ≡ spec.within (numeral_of option.now) n }
-    ensures within { IfOk result (λ n. n ≤ option.now.most) }
+fn within(option: Numeral, n: u64) -> Result<u64, WordsFault>
+    ensures value { result ≡ spec.within (numeral_of option) n }
+    ensures within { IfOk result (λ n. n ≤ option.most) }
 {
     if option.least <= n && n <= option.most {
         Ok(n)
