@@ -9,6 +9,7 @@ use Rattle.pyd_board.specs.declared.setup.Loss.{Loss}
 use Rattle.pyd_words.specs.declared.plan.Mode.{Mode}
 use Rattle.pyd_words.specs.declared.plan.Mode.TheVariants.{Run, Trace, Check, Graph, Replay, Demo}
 use Rattle.pyd_words.specs.declared.plan.Plan.{Plan}
+use Rattle.pyd_words.specs.declared.plan.Numbers.{Numbers}
 use Rattle.pyd_words.specs.declared.fault.WordsFault.{WordsFault}
 use Rattle.pyd_words.specs.declared.fault.WordsFault.TheVariants.{Line, BadMode, BadNumber, BadScript, NumberWhere}
 use Rattle.pyd_words.specs.Options.{Text, Numeral, Choice, numeral, place, lose, name_of, options, modes}
@@ -19,7 +20,7 @@ use Rattle.pyd_words.specs.Losses.{script, ordered}
 
 -- one step after another, up to the first fault
 infixl 20 ◌>>=◌
-abbrev pub ◌>>=◌ : {A B : Type 0} → Result A WordsFault → (A → Result B WordsFault) → Result B WordsFault
+unfoldable pub ◌>>=◌ : {A B : Type 0} → Result A WordsFault → (A → Result B WordsFault) → Result B WordsFault
 Ok x >>= next = next x
 Err e >>= next = Err e
 
@@ -78,19 +79,37 @@ has_number rows = is_some (value number.name rows)
 abbrev pub number_stands : Mode → List Row → Bool
 number_stands mode rows = if wants_number mode then has_number rows else not (has_number rows)
 
--- the settings: first the numbers in their order, then the script, then whether a number stands where it is asked
-unfoldable pub settings : Mode → List Row → Result Plan WordsFault
-settings mode rows = do
+-- the numbers of the options in their order
+unfoldable pub numbers : List Row → Result Numbers WordsFault
+numbers rows = do
   m ← number_in machines rows
   w ← number_in workers rows
   t ← number_in turns rows
   d ← number_in depth rows
   win ← number_in window rows
   n ← number_in number rows
-  ls ← losses_in m rows
-  if number_stands mode rows
-      then Ok (record { mode = mode; machines = m; workers = w; turns = t; depth = d; window = win; near = near_in rows; losses = ls; number = n })
-      else Err NumberWhere
+  Ok (record { machines = m; workers = w; turns = t; depth = d; window = win; number = n })
+
+-- the plan of a mode with its settings
+abbrev pub plan_of : Mode → Numbers → Bool → List Loss → Plan
+plan_of mode n near losses = record {
+  mode = mode;
+  machines = n.machines;
+  workers = n.workers;
+  turns = n.turns;
+  depth = n.depth;
+  window = n.window;
+  near = near;
+  losses = losses;
+  number = n.number;
+}
+
+-- the settings: first the numbers, then the script, then whether a number stands where the mode wants one
+unfoldable pub settings : Mode → List Row → Result Plan WordsFault
+settings mode rows = do
+  n ← numbers rows
+  losses ← losses_in n.machines rows
+  if number_stands mode rows then Ok (plan_of mode n (near_in rows) losses) else Err NumberWhere
 
 -- the plan of what is given: the mode, the form of all values, and the settings
 unfoldable pub plan : List Row → Result Plan WordsFault

@@ -40,3 +40,14 @@ pub struct Plan {
     /// The number of the generated source, 0 outside `Demo`.
     pub number: u64,
 }
+
+/// The numbers of the options.
+#[derive(Clone, Copy, Debug)]
+pub struct Numbers {
+    pub machines: u32,
+    pub workers: u32,
+    pub turns: u64,
+    pub depth: u32,
+    pub window: u32,
+    pub number: u64,
+}

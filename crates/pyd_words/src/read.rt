@@ -10,7 +10,7 @@ use crate::fault::{WordsFault, WordsStop};
 use crate::losses::{ordered, script};
 use crate::number::{MOST_DIGITS, is_digits, narrow_in, number_in};
 use crate::options::{Choice, DEPTH, MACHINES, MODES, NUMBER, OPTIONS, TURNS, WINDOW, WORKERS};
-use crate::plan::{Mode, Plan};
+use crate::plan::{Mode, Numbers, Plan};
 use clap::ArgMatches;
 use pyd_board::Loss;
 use pyd_value::List;
@@ -79,10 +79,32 @@ fn is_formed(option: &Choice, text: &str) -> bool
     }
 }
 
-/// The settings: first the numbers in their order, then the script, then whether a number stands
-/// where the mode wants one.
+/// The settings: first the numbers, then the script, then whether a number stands where the mode
+/// wants one.
 fn settings(alloc: Global, mode: Mode, matches: &ArgMatches<'_>) -> Result<Plan, WordsStop>
     ensures { Answers (spec.settings mode (rows_of (found_of matches.now))) result }
+{
+    let numbers = numbers(matches)?;
+    let losses = losses_in(alloc, numbers.machines, matches)?;
+    if !number_stands(mode, matches) {
+        return Err(WordsStop::Fault(WordsFault::NumberWhere));
+    }
+    Ok(Plan {
+        mode,
+        machines: numbers.machines,
+        workers: numbers.workers,
+        turns: numbers.turns,
+        depth: numbers.depth,
+        window: numbers.window,
+        near: near_in(matches),
+        losses,
+        number: numbers.number,
+    })
+}
+
+/// The numbers of the options in their order.
+fn numbers(matches: &ArgMatches<'_>) -> Result<Numbers, WordsFault>
+    ensures { result ≡ spec.numbers (rows_of (found_of matches.now)) }
 {
     let machines = narrow_in(&MACHINES, matches)?;
     let workers = narrow_in(&WORKERS, matches)?;
@@ -90,19 +112,12 @@ fn settings(alloc: Global, mode: Mode, matches: &ArgMatches<'_>) -> Result<Plan,
     let depth = narrow_in(&DEPTH, matches)?;
     let window = narrow_in(&WINDOW, matches)?;
     let number = number_in(&NUMBER, matches)?;
-    let losses = losses_in(alloc, machines, matches)?;
-    if !number_stands(mode, matches) {
-        return Err(WordsStop::Fault(WordsFault::NumberWhere));
-    }
-    Ok(Plan {
-        mode,
+    Ok(Numbers {
         machines,
         workers,
         turns,
         depth,
         window,
-        near: near_in(matches),
-        losses,
         number,
     })
 }
