@@ -1,3 +1,5 @@
 pub mod Digits
 pub mod Stops
 pub mod Steps
+pub mod Order
+pub mod NotLine

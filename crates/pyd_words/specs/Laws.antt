@@ -1,7 +1,6 @@
 -- The laws of the words.
 use Rattle.std.specs.Prelude.{◌≡◌, ◌<◌, ◌≤◌, ◌==◌, ◌↔◌, ℕ, true, false, List, filter, Ok, Err}
-use Rattle.std.specs.List.Sorted.{IsSortedByKey}
-use Rattle.std.specs.Ordering.{nat_cmp}
+use Rattle.std.specs.List.Sorted.{IsNonDecreasingBy}
 use Rattle.pyd_board.specs.declared.setup.Loss.{Loss}
 use Rattle.pyd_words.specs.declared.plan.Plan.{Plan}
 use Rattle.pyd_words.specs.declared.fault.WordsFault.TheVariants.{Line}
@@ -16,7 +15,7 @@ LineIsRefused = (ws : List Text) → (words ws ≡ Err Line) ↔ (is_refused ws 
 
 -- the events never fall
 abbrev pub EventsRise : Type 0
-EventsRise = (ls : List Loss) → IsSortedByKey (λ l. l.event) nat_cmp (in_order ls)
+EventsRise = (ls : List Loss) → IsNonDecreasingBy (λ l. l.event) (in_order ls)
 
 -- the losses of one event are those written, in the order in which they are written
 abbrev pub SameEventAsWritten : Type 0
@@ -35,7 +34,7 @@ pub record IsSound (plan : Plan) : Type 0 where
   pub depth_within : Within depth plan.depth
   pub window_within : Within window plan.window
   pub number_within : Within number plan.number
-  pub rising : IsSortedByKey (λ l. l.event) nat_cmp plan.losses
+  pub rising : IsNonDecreasingBy (λ l. l.event) plan.losses
   pub machines_there : loses_none plan.machines plan.losses ≡ false
   pub none_twice : loses_twice plan.losses ≡ false
   pub one_left : loses_all plan.machines plan.losses ≡ false

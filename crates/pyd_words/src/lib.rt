@@ -3,6 +3,7 @@
 
 mod command;
 mod fault;
+mod laws;
 mod losses;
 mod number;
 mod options;
@@ -10,5 +11,6 @@ mod plan;
 mod read;
 
 pub use fault::{WordsFault, WordsStop};
+pub use laws::{line_is_what_the_command_refuses, losses_are_in_order};
 pub use plan::{Mode, Plan};
 pub use read::read_words;
