@@ -1,5 +1,5 @@
 -- Numbers that are read of digits.
-use Rattle.std.proofs.Common.{◌≡◌, ◌^◌, Option, option_and_then, if◌then◌else◌, ◌<◌, ◌≤◌, ◌-◌, ◌&&◌, ℕ, Bool, true, false, List, length, leb, ltb, nat_lt, nat_le, Result, Ok, Err, Some, None, refl, rules, arith, ap, sym, ◌∙◌, inl, inr}
+use Rattle.std.proofs.Common.{◌≡◌, ◌^◌, option_and_then, if◌then◌else◌, ◌<◌, ◌-◌, ◌&&◌, ℕ, Bool, true, false, length, nat_lt, nat_le, Result, Ok, Err, Some, None, refl, rules, arith, ap, sym, ◌∙◌, inl, inr}
 use Rattle.std.specs.Char.{is_ascii_digit}
 use Rattle.std.specs.List.{list_all}
 use Rattle.std.specs.Result.{OkIff, result_ok}

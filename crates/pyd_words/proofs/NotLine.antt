@@ -7,12 +7,11 @@ use Rattle.pyd_board.specs.declared.setup.Loss.{Loss}
 use Rattle.pyd_words.specs.declared.fault.WordsFault.{WordsFault}
 use Rattle.pyd_words.specs.declared.fault.WordsFault.TheVariants.{Line, BadMode, BadNumber, OutOfRange, BadScript, NoMachine, TwiceLost, AllLost, NumberWhere}
 use Rattle.pyd_words.specs.declared.plan.Mode.{Mode}
-use Rattle.pyd_words.specs.declared.plan.Numbers.{Numbers}
 use Rattle.pyd_words.specs.Options.{Text, Numeral, options, machines, workers, turns, depth, window, number}
 use Rattle.pyd_words.specs.Command.{given, is_refused, value}
-use Rattle.pyd_words.specs.Numbers.{is_digits, most_digits, ranged, within}
+use Rattle.pyd_words.specs.Numbers.{is_digits, most_digits, ranged}
 use Rattle.pyd_words.specs.Losses.{in_order, loses_all, loses_none, loses_twice, ordered, script}
-use Rattle.pyd_words.specs.Words.{◌>>=◌, are_formed, has_number, losses_in, losses_of, mode_in, near_in, number_in, number_stands, numbers, plan, plan_of, settings, words}
+use Rattle.pyd_words.specs.Words.{◌>>=◌, are_formed, losses_in, losses_of, mode_in, near_in, number_stands, numbers, plan, plan_of, settings, words}
 
 -- the answer is another than `Line`
 abbrev NotLine : {A : Type 0} → Result A WordsFault → Type 0

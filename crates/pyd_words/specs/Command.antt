@@ -1,6 +1,6 @@
 -- The command as `clap` defines it, and what `clap` makes of the words by that definition.
-use Rattle.std.specs.Prelude.{ℕ, Bool, true, not, List, [], ◌∷◌, ◌==◌, length, Option, Some, codes, fold}
-use Rattle.clap.specs.Words.{App, Row, Rule, app_of, fault_of, first_of, matches_of, new_app, new_rule, with_rule}
+use Rattle.std.specs.Prelude.{Bool, true, not, List, ◌∷◌, ◌==◌, length, Option, Some, codes, fold}
+use Rattle.clap.specs.Words.{App, Row, Rule, fault_of, first_of, matches_of, new_app, new_rule, with_rule}
 use Rattle.pyd_words.specs.Options.{Text, Choice, name_of, options}
 
 -- the mode, which has to be there

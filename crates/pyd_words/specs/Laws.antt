@@ -1,5 +1,5 @@
 -- The laws of the words.
-use Rattle.std.specs.Prelude.{◌≡◌, ◌<◌, ◌≤◌, ◌==◌, ◌↔◌, ℕ, true, false, List, filter, Ok, Err}
+use Rattle.std.specs.Prelude.{◌≡◌, ◌≤◌, ◌==◌, ◌↔◌, ℕ, true, false, List, filter, Ok, Err}
 use Rattle.std.specs.List.Sorted.{IsNonDecreasingBy}
 use Rattle.pyd_board.specs.declared.setup.Loss.{Loss}
 use Rattle.pyd_words.specs.declared.plan.Plan.{Plan}

@@ -1,5 +1,5 @@
 -- What the words of the command line ask for, or the first fault in them (docs/FORMATS.md, "Words").
-use Rattle.std.specs.Prelude.{ℕ, ◌||◌, Bool, true, false, not, List, [], ◌∷◌, Option, Some, None, is_some, if◌then◌else◌}
+use Rattle.std.specs.Prelude.{ℕ, ◌||◌, Bool, true, false, not, List, [], Option, is_some, if◌then◌else◌}
 use Rattle.std.specs.Prelude.{option_and_then, option_map, ok_or, find, codes, Result, Ok, Err}
 use Rattle.std.specs.List.{list_all}
 use Rattle.std.specs.Option.{option_map_or}

@@ -5,8 +5,8 @@ ghost use Rattle.pyd_words.specs.Answers.{IsStopOf, StopsLine};
 ghost use Rattle.pyd_words.specs.Command as spec;
 ghost use Rattle.pyd_words.specs.Rows.{choice_of};
 
-use crate::options::{Choice, OPTIONS};
 use crate::fault::{WordsFault, WordsStop};
+use crate::options::{Choice, OPTIONS};
 use clap::error::ErrorKind;
 use clap::{Arg, ArgMatches, Command, Error};
 use std::alloc::{AllocError, Global};
@@ -79,7 +79,7 @@ fn with_options<'a>(
 ) -> Result<Command<'a>, AllocError>
     ensures { IfOk result (λ c.
         app_of c ≡ fold (λ app o. spec.with_choice app (choice_of o))
-            (app_of command.entry) options.now) }
+        (app_of command.entry) options.now) }
 {
     for option in options {
         command = with_option(alloc, command, option.name())?;
@@ -95,7 +95,11 @@ fn bare_command<'a>(alloc: Global) -> Result<Command<'a>, AllocError>
 }
 
 /// The command with one option more.
-fn with_option<'a>(alloc: Global, command: Command<'a>, name: &'a str) -> Result<Command<'a>, AllocError>
+fn with_option<'a>(
+    alloc: Global,
+    command: Command<'a>,
+    name: &'a str,
+) -> Result<Command<'a>, AllocError>
     ensures { IfOk result (λ c.
         app_of c ≡ with_rule (app_of command.entry) (spec.option_rule name.entry.now)) }
 {

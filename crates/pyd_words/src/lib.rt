@@ -14,3 +14,6 @@ pub use fault::{WordsFault, WordsStop};
 pub use laws::{line_is_what_the_command_refuses, losses_are_in_order};
 pub use plan::{Mode, Plan};
 pub use read::read_words;
+
+#[cfg(test)]
+mod tests;

@@ -60,7 +60,9 @@ fn are_formed(mut options: &[Choice], matches: &ArgMatches<'_>) -> bool
         ≡ spec.are_formed (map choice_of options.entry.now) (rows_of (found_of matches.now)) }
 {
     while let [option, rest @ ..] = options {
-        if let Some(text) = value(matches, option.name()) && !is_formed(option, text) {
+        if let Some(text) = value(matches, option.name())
+            && !is_formed(option, text)
+        {
             return false;
         }
         options = rest;

@@ -1,4 +1,4 @@
-use Rattle.std.proofs.Common.{◌≡◌, ◌++◌, [], ◌∷◌, codes, map, string_bytes, take}
+use Rattle.std.proofs.Common.{◌≡◌, ◌∷◌, codes, map, string_bytes, take}
 use Rattle.pyd_words.proofs.command.all_words.Given as goal
 
 abbrev pub invariant-loop-word : goal.invariant-loop-word

@@ -1,9 +1,7 @@
-use Rattle.std.proofs.Common.{rules, ◌≡◌, ◌∙◌, ap, IfOk, fold}
+use Rattle.std.proofs.Common.{◌∙◌, ap, fold}
 use Rattle.std.proofs.lemmas.Result.{IfOk-weaker}
-use Rattle.clap.specs.Words.{app_of}
-use Rattle.pyd_words.specs.Command.{app, bare_app, with_choice, option_rule}
+use Rattle.pyd_words.specs.Command.{app, with_choice}
 use Rattle.pyd_words.specs.Options.{options}
-use Rattle.pyd_words.specs.Rows.{choice_of}
 use Rattle.pyd_words.proofs.command.command.Goals as goal
 
 pub returns : goal.returns

@@ -1,5 +1,5 @@
 use Rattle.std.proofs.Common.{◌≡◌, ◌∙◌, ◌==◌, not, true, length, map, ap, sym, subst, refl}
-use Rattle.clap.specs.Words.{App, HasKind, app_of, fault_of, is_simple, is_simple_and_free, matches_of}
+use Rattle.clap.specs.Words.{App, HasKind, fault_of, is_simple, is_simple_and_free, matches_of}
 use Rattle.clap.proofs.OnLiterals.{clap_on_literals}
 use Rattle.pyd_words.specs.Command.{app, bare_app, mode_rule, option_rule}
 use Rattle.pyd_words.proofs.Stops.{stops_line}
