@@ -3,3 +3,5 @@ pub mod Stops
 pub mod Steps
 pub mod Order
 pub mod NotLine
+pub mod Lost
+pub mod Sound

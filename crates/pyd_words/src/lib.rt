@@ -11,7 +11,7 @@ mod plan;
 mod read;
 
 pub use fault::{WordsFault, WordsStop};
-pub use laws::{line_is_what_the_command_refuses, losses_are_in_order};
+pub use laws::{line_is_what_the_command_refuses, losses_are_in_order, plans_are_sound};
 pub use plan::{Mode, Plan};
 pub use read::read_words;
 
