@@ -18,8 +18,8 @@ use Rattle.pyd_words.specs.Command.{is_refused, given, value}
 use Rattle.pyd_words.specs.Numbers.{is_digits, most_digits, ranged}
 use Rattle.pyd_words.specs.Losses.{script, ordered}
 
--- one step after another, up to the first fault
 infixl 20 ◌>>=◌
+-- one step after another, up to the first fault
 unfoldable pub ◌>>=◌ : {A B : Type 0} → Result A WordsFault → (A → Result B WordsFault) → Result B WordsFault
 Ok x >>= next = next x
 Err e >>= next = Err e
