@@ -11,7 +11,7 @@ use Rattle.pyd_words.specs.Options.{Text, Numeral, options, machines, workers, t
 use Rattle.pyd_words.specs.Command.{given, is_refused, value}
 use Rattle.pyd_words.specs.Numbers.{is_digits, most_digits, ranged}
 use Rattle.pyd_words.specs.Losses.{in_order, loses_all, loses_none, loses_twice, ordered, script}
-use Rattle.pyd_words.specs.Words.{◌>>=◌, are_formed, losses_in, losses_of, mode_in, near_in, number_stands, numbers, plan, plan_of, settings, words}
+use Rattle.pyd_words.specs.Words.{◌>>=◌, are_formed, losses_in, ordered_script, mode_in, near_in, number_stands, numbers, plan, plan_of, settings, words}
 
 -- the answer is another than `Line`
 abbrev NotLine : {A : Type 0} → Result A WordsFault → Type 0
@@ -33,8 +33,8 @@ not_missing : {A : Type 0} (o : Option A) (fault : WordsFault) → (fault ≡ Li
 not_missing (Some x) fault h = λ e. cc
 not_missing None fault h = λ e. let same : fault ≡ Line = cc in h same
 
-not_ranged : (o : Numeral) (z : Option Text) → NotLine (option_map_or (ranged o) z (Ok o.usual))
-not_ranged o None = given_value o.usual
+not_ranged : (o : Numeral) (z : Option Text) → NotLine (option_map_or (ranged o) z (Ok o.default))
+not_ranged o None = given_value o.default
 not_ranged o (Some z) =
     not_either (is_digits most_digits z) _ (Err BadNumber)
     (not_either _ (Ok _) (Err OutOfRange) (given_value _) (λ h. cc)) (λ h. cc)
@@ -45,7 +45,7 @@ not_ordered m ls =
     (not_either (loses_twice ls) (Err TwiceLost) _ (λ h. cc)
     (not_either (loses_all m ls) (Err AllLost) (Ok (in_order ls)) (λ h. cc) (given_value (in_order ls))))
 
-not_script : (m : _) (z : Option Text) → NotLine (option_map_or (losses_of m) z (ordered m []))
+not_script : (m : _) (z : Option Text) → NotLine (option_map_or (ordered_script m) z (ordered m []))
 not_script m None = not_ordered m []
 not_script m (Some z) = not_then (ok_or (script z) BadScript) (ordered m) (not_missing (script z) BadScript (λ h. cc)) (not_ordered m)
 

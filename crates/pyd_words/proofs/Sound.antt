@@ -15,7 +15,7 @@ use Rattle.pyd_words.specs.Options.{Text, Numeral, options, machines, workers, t
 use Rattle.pyd_words.specs.Command.{given, is_refused, value}
 use Rattle.pyd_words.specs.Numbers.{is_digits, most_digits, ranged, within}
 use Rattle.pyd_words.specs.Losses.{in_order, loses_all, loses_none, loses_twice, ordered, script}
-use Rattle.pyd_words.specs.Words.{◌>>=◌, are_formed, losses_in, losses_of, mode_in, near_in, number_stands, numbers, plan, plan_of, settings, words}
+use Rattle.pyd_words.specs.Words.{◌>>=◌, are_formed, losses_in, ordered_script, mode_in, near_in, number_stands, numbers, plan, plan_of, settings, words}
 use Rattle.pyd_words.specs.Laws.{Within, IsSound}
 use Rattle.pyd_words.proofs.Order.{in_order_rises}
 use Rattle.pyd_words.proofs.Lost.{any_in_order, all_in_order, twice_in_order}
@@ -51,9 +51,9 @@ in_limits o n m h =
     let same : n ≡ m = the_value n m p.1 in
     (omega arith, omega arith)
 
-number_within : (o : Numeral) (z : Option Text) (m : ℕ) → Within o o.usual → option_map_or (ranged o) z (Ok o.usual) ≡ Ok m → Within o m
-number_within o None m usual h = subst (λ (n : ℕ). Within o n) (the_value o.usual m h) usual
-number_within o (Some z) m usual h =
+number_within : (o : Numeral) (z : Option Text) (m : ℕ) → Within o o.default → option_map_or (ranged o) z (Ok o.default) ≡ Ok m → Within o m
+number_within o None m default h = subst (λ (n : ℕ). Within o n) (the_value o.default m h) default
+number_within o (Some z) m default h =
     let p = let_through (is_digits most_digits z) BadNumber (within o (digits_value 10 z)) m h in
     in_limits o (digits_value 10 z) m p.1
 
@@ -105,7 +105,7 @@ ordered_can m written ls h =
       left = all_in_order m written ∙ c.0;
     })
 
-losses_can : (m : ℕ) (z : Option Text) (ls : List Loss) → option_map_or (losses_of m) z (ordered m []) ≡ Ok ls → CanLose m ls
+losses_can : (m : ℕ) (z : Option Text) (ls : List Loss) → option_map_or (ordered_script m) z (ordered m []) ≡ Ok ls → CanLose m ls
 losses_can m None ls h = ordered_can m [] ls h
 losses_can m (Some z) ls h = let a = passed (ok_or (script z) BadScript) (ordered m) ls h in ordered_can m a.0 ls a.2
 

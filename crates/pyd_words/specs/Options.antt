@@ -23,31 +23,31 @@ pub record Numeral : Type 0 where
   pub name : Text
   pub least : ℕ
   pub most : ℕ
-  pub usual : ℕ
+  pub default : ℕ
 
 -- how many machines there are
 abbrev pub machines : Numeral
-machines = record { name = codes "machines"; least = 1; most = 16; usual = 1 }
+machines = record { name = codes "machines"; least = 1; most = 16; default = 1 }
 
 -- how many workers each machine has
 abbrev pub workers : Numeral
-workers = record { name = codes "workers"; least = 1; most = 4; usual = 1 }
+workers = record { name = codes "workers"; least = 1; most = 4; default = 1 }
 
 -- how many turns an activation of a loop may make
 abbrev pub turns : Numeral
-turns = record { name = codes "turns"; least = 1; most = 1000000; usual = 100000 }
+turns = record { name = codes "turns"; least = 1; most = 1000000; default = 100000 }
 
 -- how deep a call may stand
 abbrev pub depth : Numeral
-depth = record { name = codes "depth"; least = 1; most = 64; usual = 64 }
+depth = record { name = codes "depth"; least = 1; most = 64; default = 64 }
 
 -- how many nodes may stand before a composite that is refined
 abbrev pub window : Numeral
-window = record { name = codes "window"; least = 1; most = 100000; usual = 1000 }
+window = record { name = codes "window"; least = 1; most = 100000; default = 1000 }
 
 -- the number of the generated source
 abbrev pub number : Numeral
-number = record { name = codes "number"; least = 0; most = 2 ^ 64 - 1; usual = 0 }
+number = record { name = codes "number"; least = 0; most = 2 ^ 64 - 1; default = 0 }
 
 -- an option, by what its value is: a number, a way to place nodes, or a loss script
 pub data Choice : Type 0 where

@@ -6,7 +6,7 @@ use Rattle.pyd_words.specs.Options.{Numeral, Choice, numeral, place, lose}
 
 -- an option that takes a number
 abbrev pub numeral_of : NumeralRow → Numeral
-numeral_of o = record { name = o.name.now; least = o.least; most = o.most; usual = o.usual }
+numeral_of o = record { name = o.name.now; least = o.least; most = o.most; default = o.default }
 
 -- an option
 abbrev pub choice_of : ChoiceRow → Choice

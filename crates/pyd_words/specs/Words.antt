@@ -46,21 +46,21 @@ is_formed lose z = true
 abbrev pub are_formed : List Choice → List Row → Bool
 are_formed os rows = list_all (λ o. option_map_or (is_formed o) (value (name_of o) rows) true) os
 
--- the number of an option, its usual one where none is given
+-- the number of an option, its default where none is given
 abbrev pub number_in : Numeral → List Row → Result ℕ WordsFault
-number_in o rows = option_map_or (ranged o) (value o.name rows) (Ok o.usual)
+number_in o rows = option_map_or (ranged o) (value o.name rows) (Ok o.default)
 
 -- whether nodes are to be placed near their inputs
 abbrev pub near_in : List Row → Bool
 near_in rows = option_map_or (λ z. bytes_eq z (codes "near")) (value (codes "place") rows) false
 
 -- the losses of a script, in order
-abbrev pub losses_of : ℕ → Text → Result (List Loss) WordsFault
-losses_of m z = ok_or (script z) BadScript >>= ordered m
+abbrev pub ordered_script : ℕ → Text → Result (List Loss) WordsFault
+ordered_script m z = ok_or (script z) BadScript >>= ordered m
 
 -- the losses of the script in order, none where no script is given
 abbrev pub losses_in : ℕ → List Row → Result (List Loss) WordsFault
-losses_in m rows = option_map_or (losses_of m) (value (codes "lose") rows) (ordered m [])
+losses_in m rows = option_map_or (ordered_script m) (value (codes "lose") rows) (ordered m [])
 
 -- whether the mode runs the generated source, of which a number is asked
 abbrev pub wants_number : Mode → Bool

@@ -32,21 +32,21 @@ fn are_digits(text: &str) -> bool
     text.bytes().all(|b| b.is_ascii_digit())
 }
 
-/// The number of an option, its usual one where none is given.
+/// The number of an option, its default where none is given.
 pub fn number_in(option: &Numeral, matches: &ArgMatches<'_>) -> Result<u64, WordsFault>
-    requires { option.now.usual ≤ option.now.most }
+    requires { option.now.default ≤ option.now.most }
     ensures value { result ≡ number_in (numeral_of option.now) (rows_of (found_of matches.now)) }
     ensures within { IfOk result (λ n. n ≤ option.now.most) }
 {
     match value(matches, option.name) {
         Some(text) => ranged(*option, text),
-        None => Ok(option.usual),
+        None => Ok(option.default),
     }
 }
 
 /// The number of an option whose limits fit 32 bits.
 pub fn narrow_in(option: &Numeral, matches: &ArgMatches<'_>) -> Result<u32, WordsFault>
-    requires usual { option.now.usual ≤ option.now.most }
+    requires default { option.now.default ≤ option.now.most }
     requires narrow { option.now.most < 2 ^ 32 }
     ensures { result ≡ number_in (numeral_of option.now) (rows_of (found_of matches.now)) }
 {

@@ -22,49 +22,49 @@ pub struct Numeral {
     pub least: u64,
     pub most: u64,
     /// The number that counts where none is given.
-    pub usual: u64,
+    pub default: u64,
 }
 
 pub const MACHINES: Numeral = Numeral {
     name: "machines",
     least: 1,
     most: 16,
-    usual: 1,
+    default: 1,
 };
 
 pub const WORKERS: Numeral = Numeral {
     name: "workers",
     least: 1,
     most: 4,
-    usual: 1,
+    default: 1,
 };
 
 pub const TURNS: Numeral = Numeral {
     name: "turns",
     least: 1,
     most: 1_000_000,
-    usual: 100_000,
+    default: 100_000,
 };
 
 pub const DEPTH: Numeral = Numeral {
     name: "depth",
     least: 1,
     most: 64,
-    usual: 64,
+    default: 64,
 };
 
 pub const WINDOW: Numeral = Numeral {
     name: "window",
     least: 1,
     most: 100_000,
-    usual: 1_000,
+    default: 1_000,
 };
 
 pub const NUMBER: Numeral = Numeral {
     name: "number",
     least: 0,
     most: u64::MAX,
-    usual: 0,
+    default: 0,
 };
 
 /// An option, by what its value is: a number, a way to place nodes, or a loss script.

@@ -51,7 +51,7 @@ fn mode_in(matches: &ArgMatches<'_>) -> Result<Mode, WordsFault>
 fn mode_of(name: &str) -> Option<Mode>
     ensures { result ≡ spec.mode_of name.now }
 {
-    find(&MODES, name)
+    named(&MODES, name)
 }
 
 /// Whether each value that is given has its form.
@@ -143,14 +143,14 @@ fn losses_in(
     ensures { Answers (spec.losses_in machines (rows_of (found_of matches.now))) result }
 {
     match value(matches, Choice::Lose.name()) {
-        Some(text) => losses_of(alloc, machines, text),
+        Some(text) => ordered_script(alloc, machines, text),
         None => ordered(alloc, machines, &[]),
     }
 }
 
 /// The losses of a script in order.
-fn losses_of(alloc: Global, machines: u32, text: &str) -> Result<List<Loss>, WordsStop>
-    ensures { Answers (spec.losses_of machines text.now) result }
+fn ordered_script(alloc: Global, machines: u32, text: &str) -> Result<List<Loss>, WordsStop>
+    ensures { Answers (spec.ordered_script machines text.now) result }
 {
     match script(alloc, text)? {
         Some(losses) => ordered(alloc, machines, losses.as_slice()),
@@ -177,7 +177,7 @@ fn wants_number(mode: Mode) -> bool
 }
 
 /// What the first row with this very name has.
-fn find(mut modes: &[(&str, Mode)], name: &str) -> Option<Mode>
+fn named(mut modes: &[(&str, Mode)], name: &str) -> Option<Mode>
     ensures { result ≡ spec.named (map (λ row. (row.0.now, row.1)) modes.entry.now) name.now }
 {
     while let [row, rest @ ..] = modes {

@@ -1,6 +1,6 @@
 use Rattle.std.proofs.Common.{◌≡◌, length, map}
 use Rattle.pyd_words.specs.Words as spec
-use Rattle.pyd_words.proofs.read.find.Given as goal
+use Rattle.pyd_words.proofs.read.named.Given as goal
 
 abbrev pub invariant-loop-modes : goal.invariant-loop-modes
 invariant-loop-modes l =
