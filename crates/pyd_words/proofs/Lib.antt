@@ -1,0 +1,7 @@
+pub mod Digits
+pub mod Stops
+pub mod Steps
+pub mod Order
+pub mod NotLine
+pub mod Lost
+pub mod Sound
