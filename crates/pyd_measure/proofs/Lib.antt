@@ -1,0 +1,14 @@
+pub mod Lists
+pub mod Shapes
+pub mod Actions
+pub mod Table
+pub mod Steps
+pub mod Suites
+pub mod Finding
+pub mod Single
+pub mod Statements
+pub mod Depths
+pub mod Deepening
+pub mod Keeping
+pub mod Bounds
+pub mod Shallow

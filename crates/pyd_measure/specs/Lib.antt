@@ -1,0 +1,10 @@
+pub mod Limit
+pub mod Marks
+pub mod Lines
+pub mod Depth
+pub mod Laws
+pub mod Measures
+pub mod Parts
+pub mod Combining
+pub mod Measurings
+pub mod States
