@@ -1,0 +1,5 @@
+pub mod Literal
+pub mod Binding
+pub mod Resolution
+pub mod Uses
+pub mod WellFormed
