@@ -87,6 +87,11 @@ arm_bindings = fold-Arm (ℕ → List Binding) (List Binding) (List Binding) (Li
 abbrev pub what_bindings : What → ℕ → List Binding
 what_bindings = fold-What (ℕ → List Binding) (List Binding) (List Binding) (List Binding) what_binds arm_binds block_binds statement_binds
 
+-- what the suite of an `else` binds, if there is one
+abbrev pub otherwise_bindings : Option Block → List Binding
+otherwise_bindings None = []
+otherwise_bindings (Some block) = bindings block
+
 -- the names that are bound
 abbrev pub names_of : List Binding → List (List ℕ)
 names_of bs = map (λ b. b.name) bs

@@ -62,9 +62,25 @@ suffix_step (Suffix-F.Slice lower upper) line = maybe line lower ++ maybe line u
 abbrev pub expression_uses : Expr → Part
 expression_uses = fold-Expr Part (ℕ → List NameUse) expression_step suffix_step
 
--- the uses in brackets
+-- the uses in what stands in brackets, in a line
 abbrev pub suffix_uses : Suffix → ℕ → List NameUse
 suffix_uses = fold-Suffix Part (ℕ → List NameUse) expression_step suffix_step
+
+-- the uses in a part of an expression, which is no whole iterable
+abbrev pub part_uses : ℕ → Expr → List NameUse
+part_uses line e = expression_uses e line Called
+
+-- the uses in brackets
+abbrev pub bracket_uses : ℕ → Suffix → List NameUse
+bracket_uses line s = suffix_uses s line
+
+-- a call uses its name in the manner given, and then its arguments
+abbrev pub call_uses : ℕ → Manner → List ℕ → List Expr → List NameUse
+call_uses line manner name arguments = used line name manner ∷ flat_map (part_uses line) arguments
+
+-- an augmented assignment reads its name, and then uses its right side
+abbrev pub augmented_uses : ℕ → List ℕ → Expr → List NameUse
+augmented_uses line name right = used line name Read ∷ part_uses line right
 
 -- the uses in an expression that may be missing
 abbrev pub maybe_uses : ℕ → Option Expr → List NameUse
@@ -112,6 +128,11 @@ arm_uses = fold-Arm (ℕ → List NameUse) (List NameUse) (List NameUse) (List N
 -- the uses in what a statement does in its line
 abbrev pub what_uses : What → ℕ → List NameUse
 what_uses = fold-What (ℕ → List NameUse) (List NameUse) (List NameUse) (List NameUse) what_uses_step arm_uses_step block_uses_step statement_uses_step
+
+-- the uses in the suite of an `else`, if there is one
+abbrev pub otherwise_uses : Option Block → List NameUse
+otherwise_uses None = []
+otherwise_uses (Some block) = uses block
 
 -- the uses in the module statements
 abbrev pub module_uses : File → List NameUse

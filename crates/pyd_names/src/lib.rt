@@ -2,6 +2,7 @@
 #![tactic(auto)]
 
 mod binding;
+mod expression_use;
 mod name_use;
 
 pub use binding::{Binding, bindings, statement_bindings};

@@ -1,0 +1,72 @@
+-- What each kind of expression and of statement uses.
+use Rattle.std.proofs.Common.{◌≡◌, ℕ, List, [], ◌∷◌, ◌++◌, map, Option, Some, None, ◌⊎◌, inl, inr, refl, ap, ◌∙◌, rules}
+use Rattle.std.specs.List.{flat_map}
+use Rattle.pyd_value.specs.declared.operator.BinOp.{BinOp}
+use Rattle.pyd_value.specs.declared.operator.CmpOp.{CmpOp}
+use Rattle.pyd_tree.specs.declared.expression.Expr.{Expr, the_lemmas}
+use Rattle.pyd_tree.specs.declared.expression.Expr.TheVariants as expression
+use Rattle.pyd_tree.specs.declared.expression.Suffix.{Suffix}
+use Rattle.pyd_tree.specs.declared.expression.Suffix.TheVariants as suffix
+use Rattle.pyd_tree.specs.declared.statement.Targets.{Targets}
+use Rattle.pyd_tree.specs.declared.statement.Block.{Block, out-Block}
+use Rattle.pyd_tree.specs.declared.statement.Arm.{Arm}
+use Rattle.pyd_tree.specs.declared.statement.What.{What, the_lemmas as what_lemmas}
+use Rattle.pyd_tree.specs.declared.statement.What.TheVariants as what
+use Rattle.pyd_names.specs.declared.name_use.Manner.{Manner}
+use Rattle.pyd_names.specs.declared.name_use.Manner.TheVariants.{Read, Called}
+use Rattle.pyd_names.specs.declared.name_use.Manner.TheVariants as manner
+use Rattle.pyd_names.specs.Uses as spec
+use Rattle.pyd_names.proofs.Lists.{flat_map-map}
+
+pub tuple_uses : (es : List Expr) (line : ℕ) (m : Manner) → spec.expression_uses (expression.Tuple es) line m ≡ flat_map (spec.part_uses line) es
+tuple_uses es line m = search (rules, the_lemmas, flat_map-map)
+
+pub and_uses : (es : List Expr) (line : ℕ) (m : Manner) → spec.expression_uses (expression.And es) line m ≡ flat_map (spec.part_uses line) es
+and_uses es line m = search (rules, the_lemmas, flat_map-map)
+
+pub or_uses : (es : List Expr) (line : ℕ) (m : Manner) → spec.expression_uses (expression.Or es) line m ≡ flat_map (spec.part_uses line) es
+or_uses es line m = search (rules, the_lemmas, flat_map-map)
+
+pub listed_uses : (e : Expr) (es : List Expr) (line : ℕ) (m : Manner)
+    → (e ≡ expression.Tuple es) ⊎ ((e ≡ expression.And es) ⊎ (e ≡ expression.Or es))
+    → spec.expression_uses e line m ≡ flat_map (spec.part_uses line) es
+listed_uses e es line m (inl is) = ap (λ e. spec.expression_uses e line m) is ∙ tuple_uses es line m
+listed_uses e es line m (inr (inl is)) = ap (λ e. spec.expression_uses e line m) is ∙ and_uses es line m
+listed_uses e es line m (inr (inr is)) = ap (λ e. spec.expression_uses e line m) is ∙ or_uses es line m
+
+pub chain_uses : (e : Expr) (ls : List (BinOp × Expr)) (line : ℕ) (m : Manner)
+    → spec.expression_uses (expression.Chain e ls) line m ≡ spec.part_uses line e ++ flat_map (λ l. spec.part_uses line l.1) ls
+chain_uses e ls line m = search (rules, the_lemmas, flat_map-map)
+
+pub compare_uses : (e : Expr) (ls : List (CmpOp × Expr)) (line : ℕ) (m : Manner)
+    → spec.expression_uses (expression.Compare e ls) line m ≡ spec.part_uses line e ++ flat_map (λ l. spec.part_uses line l.1) ls
+compare_uses e ls line m = search (rules, the_lemmas, flat_map-map)
+
+pub power_uses : (b e : Expr) (line : ℕ) (m : Manner) → spec.expression_uses (expression.Power b e) line m ≡ spec.part_uses line b ++ spec.part_uses line e
+power_uses b e line m = search (rules, the_lemmas)
+
+pub choice_uses : (c l r : Expr) (line : ℕ) (m : Manner)
+    → spec.expression_uses (expression.If c l r) line m ≡ spec.part_uses line l ++ (spec.part_uses line c ++ spec.part_uses line r)
+choice_uses c l r line m = search (rules, the_lemmas)
+
+pub call_uses : (n : List ℕ) (es : List Expr) (line : ℕ) (m : Manner)
+    → spec.expression_uses (expression.Call n es) line m ≡ spec.used line n m ∷ flat_map (spec.part_uses line) es
+call_uses n es line m = search (rules, the_lemmas, flat_map-map)
+
+pub suffixed_uses : (e : Expr) (ss : List Suffix) (line : ℕ) (m : Manner)
+    → spec.expression_uses (expression.Suffixed e ss) line m ≡ spec.part_uses line e ++ flat_map (spec.bracket_uses line) ss
+suffixed_uses e ss line m = search (rules, the_lemmas, flat_map-map)
+
+pub slice_uses : (l u : Option Expr) (line : ℕ) → spec.suffix_uses (suffix.Slice l u) line ≡ spec.maybe_uses line l ++ spec.maybe_uses line u
+slice_uses None None line = search (rules, the_lemmas)
+slice_uses None (Some u) line = search (rules, the_lemmas)
+slice_uses (Some l) None line = search (rules, the_lemmas)
+slice_uses (Some l) (Some u) line = search (rules, the_lemmas)
+
+pub choices_use : (arms : List Arm) (otherwise : Option Block) (line : ℕ)
+    → spec.what_uses (what.If arms otherwise) line ≡ flat_map spec.arm_uses arms ++ spec.otherwise_uses otherwise
+choices_use arms None line = search (rules, what_lemmas, flat_map-map)
+choices_use arms (Some b) line = search (rules, what_lemmas, flat_map-map)
+
+pub block_uses : (b : Block) → spec.uses b ≡ flat_map spec.statement_uses (out-Block b).stmts
+block_uses b = search (rules, what_lemmas, flat_map-map)

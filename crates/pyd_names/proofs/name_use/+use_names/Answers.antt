@@ -1,0 +1,12 @@
+use Rattle.std.proofs.Common.{rules, append_assoc, ap, sym, ◌++◌, ◌∙◌}
+use Rattle.std.specs.List.{flat_map}
+use Rattle.pyd_names.specs.Uses.{statement_uses}
+use Rattle.pyd_names.proofs.Lists.{all_walked}
+use Rattle.pyd_names.proofs.Used.{block_uses}
+use Rattle.pyd_names.proofs.name_use.+use_names.Goals as goal
+
+pub add_block-returns : goal.add_block-returns
+add_block-returns t c =
+    all_walked statement_uses c.as_slice-stmt-items.result.now _ _ _ c.loop-stmt-test.false c.loop-stmt.invariant
+    ∙ ap (λ items. c.args.out.now ++ flat_map statement_uses items) c.as_slice-stmt-items.ensures
+    ∙ ap (λ bs. c.args.out.now ++ bs) (sym (block_uses c.args.block.now))
