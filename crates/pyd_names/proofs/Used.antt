@@ -68,5 +68,16 @@ pub choices_use : (arms : List Arm) (otherwise : Option Block) (line : ℕ)
 choices_use arms None line = search (rules, what_lemmas, flat_map-map)
 choices_use arms (Some b) line = search (rules, what_lemmas, flat_map-map)
 
+pub while_uses : (test : Expr) (body : Block) (line : ℕ) → spec.what_uses (what.While test body) line ≡ spec.part_uses line test ++ spec.uses body
+while_uses test body line = search (rules, what_lemmas)
+
+pub for_uses : (to : Targets) (over : Expr) (body : Block) (line : ℕ)
+    → spec.what_uses (what.For to over body) line ≡ spec.expression_uses over line manner.Iterated ++ spec.uses body
+for_uses to over body line = search (rules, what_lemmas)
+
+pub assert_uses : (test : Expr) (message : Option Expr) (line : ℕ)
+    → spec.what_uses (what.Assert test message) line ≡ spec.part_uses line test ++ spec.maybe_uses line message
+assert_uses test message line = search (rules, what_lemmas)
+
 pub block_uses : (b : Block) → spec.uses b ≡ flat_map spec.statement_uses (out-Block b).stmts
 block_uses b = search (rules, what_lemmas, flat_map-map)

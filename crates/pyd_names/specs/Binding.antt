@@ -1,6 +1,6 @@
 -- What a script binds: the names in text order, its module lines, and from these its constants, functions and locals.
 use Rattle.std.specs.Prelude.{ℕ, zero, suc, ◌==◌, List, [], ◌∷◌, ◌++◌, map, count_by, nat_eq, codes, Bool, true, false, not, ◌&&◌, ◌||◌, if◌then◌else◌, Option, Some, None, is_some}
-use Rattle.std.specs.List.{filter, flat_map, list_any, slice_get}
+use Rattle.std.specs.List.{filter, filter_map, flat_map, list_any, slice_get}
 use Rattle.std.specs.Cmp.Lexicographic.{pointwise}
 use Rattle.pyd_value.specs.declared.value.Value.{Value, out-Value, Text}
 use Rattle.pyd_value.specs.declared.value.Value.TheOpen.{Value-F}
@@ -208,47 +208,55 @@ pub data Line : Type 0 where
   Constant : ℕ → List ℕ → Value → Line
   Statement : Stmt → Line
 
--- a plain assignment of a literal is a constant where constants may stand and nothing else binds its name
-abbrev pub statement_line : List (List ℕ) → Bool → Stmt → Option (List ℕ × Value) → Line
-statement_line bound early s None = Statement s
-statement_line bound early s (Some a) = if early && is_once a.0 bound then Constant s.line a.0 a.1 else Statement s
+-- a plain assignment of a literal is a constant where constants may stand and its name is bound once
+abbrev pub statement_line : (List ℕ → Bool) → Bool → Stmt → Option (List ℕ × Value) → Line
+statement_line once early s None = Statement s
+statement_line once early s (Some a) = if early && once a.0 then Constant s.line a.0 a.1 else Statement s
 
 -- what an item is
-abbrev pub line_of : List (List ℕ) → Bool → Item → Line
-line_of bound early (item.Import line from names) = Import line from names
-line_of bound early (item.Def f) = Function f
-line_of bound early (item.Stmt s) = statement_line bound early s (literal_assignment s)
+abbrev pub line_of : (List ℕ → Bool) → Bool → Item → Line
+line_of once early (item.Import line from names) = Import line from names
+line_of once early (item.Def f) = Function f
+line_of once early (item.Stmt s) = statement_line once early s (literal_assignment s)
 
 -- what each item is; constants stand only as long as they may follow each item before
-abbrev pub lines_from : List (List ℕ) → Bool → List Item → List Line
-lines_from bound early [] = []
-lines_from bound early (i ∷ is) = line_of bound early i ∷ lines_from bound (early && constants_may_follow i) is
+abbrev pub lines_from : (List ℕ → Bool) → Bool → List Item → List Line
+lines_from once early [] = []
+lines_from once early (i ∷ is) = line_of once early i ∷ lines_from once (early && constants_may_follow i) is
+
+-- whether the module's statements bind a name once
+abbrev pub binds_once : File → List ℕ → Bool
+binds_once file name = is_once name (statement_names file)
 
 -- the module lines, one for each item
 abbrev pub lines : File → List Line
-lines file = lines_from (statement_names file) true file.items
+lines file = lines_from (binds_once file) true file.items
 
 -- a constant's name and value
-abbrev pub constants_in : Line → List (List ℕ × Value)
-constants_in (Import line from names) = []
-constants_in (Function f) = []
-constants_in (Constant line name value) = (name, value) ∷ []
-constants_in (Statement s) = []
+abbrev pub constant_in : Line → Option (List ℕ × Value)
+constant_in (Import line from names) = None
+constant_in (Function f) = None
+constant_in (Constant line name value) = Some (name, value)
+constant_in (Statement s) = None
 
--- the constants with their values, `__name__` first, and then in text order
+-- `__name__`, which each script has
+abbrev pub name_constant : List ℕ × Value
+name_constant = (codes "__name__", Text (codes "__main__"))
+
+-- the constants with their values: `__name__`, and then those of the file in text order
 abbrev pub constants : File → List (List ℕ × Value)
-constants file = (codes "__name__", Text (codes "__main__")) ∷ flat_map constants_in (lines file)
+constants file = name_constant ∷ filter_map constant_in (lines file)
 
 -- a module statement
-abbrev pub statements_in : Line → List Stmt
-statements_in (Import line from names) = []
-statements_in (Function f) = []
-statements_in (Constant line name value) = []
-statements_in (Statement s) = s ∷ []
+abbrev pub statement_in : Line → Option Stmt
+statement_in (Import line from names) = None
+statement_in (Function f) = None
+statement_in (Constant line name value) = None
+statement_in (Statement s) = Some s
 
 -- the module statements in text order: what is no import, no `def` and no constant
 abbrev pub module_statements : File → List Stmt
-module_statements file = flat_map statements_in (lines file)
+module_statements file = filter_map statement_in (lines file)
 
 -- the names of an import
 abbrev pub imports_in : Item → List (List ℕ)
@@ -261,14 +269,14 @@ abbrev pub imported_names : File → List (List ℕ)
 imported_names file = flat_map imports_in file.items
 
 -- the function of a `def`
-abbrev pub functions_in : Item → List Func
-functions_in (item.Import line from names) = []
-functions_in (item.Def f) = f ∷ []
-functions_in (item.Stmt s) = []
+abbrev pub function_in : Item → Option Func
+function_in (item.Import line from names) = None
+function_in (item.Def f) = Some f
+function_in (item.Stmt s) = None
 
 -- the functions in text order
 abbrev pub functions : File → List Func
-functions file = flat_map functions_in file.items
+functions file = filter_map function_in file.items
 
 -- routine 0 is the module and no function, routine k the k-th function
 abbrev pub function : File → ℕ → Option Func

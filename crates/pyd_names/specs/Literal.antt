@@ -1,5 +1,5 @@
 -- Literals, the right sides that make a constant.
-use Rattle.std.specs.Prelude.{ℕ, ℤ, pos, ◌-ℤ◌, List, [], ◌∷◌, Option, Some, None}
+use Rattle.std.specs.Prelude.{ℕ, pos, negsuc, ◌-ℤ◌, List, [], ◌∷◌, Option, Some, None}
 use Rattle.pyd_value.specs.declared.value.Value.{Value, out-Value, Int, Tuple}
 use Rattle.pyd_value.specs.declared.value.Value.TheOpen.{Value-F}
 use Rattle.pyd_value.specs.declared.operator.UnOp.{UnOp}
@@ -9,19 +9,20 @@ use Rattle.pyd_tree.specs.declared.expression.Expr.TheOpen.{Expr-F, Suffix-F}
 
 -- what an expression is as a literal: an INT, another literal, or none
 pub data Form : Type 0 where
-  number : ℤ → Form
+  number : ℕ → Form
   other : Value → Form
   none : Form
 
 -- the value of a literal
 abbrev pub value_in : Form → Option Value
-value_in (number n) = Some (Int n)
+value_in (number n) = Some (Int (pos n))
 value_in (other v) = Some v
 value_in none = None
 
--- a literal of one token
+-- a literal of one token, which is an INT where it is a number that isn't negative
 abbrev pub token_form : Value → Value-F Value → Form
-token_form v (Value-F.Int n) = number n
+token_form v (Value-F.Int (pos n)) = number n
+token_form v (Value-F.Int (negsuc n)) = other v
 token_form v (Value-F.Bool b) = other v
 token_form v (Value-F.Text s) = other v
 token_form v (Value-F.Tuple members) = other v
@@ -29,7 +30,7 @@ token_form v Value-F.None = other v
 
 -- `-` before an INT
 abbrev pub negated : Form → Form
-negated (number n) = other (Int (pos 0 -ℤ n))
+negated (number n) = other (Int (pos 0 -ℤ pos n))
 negated (other v) = none
 negated none = none
 

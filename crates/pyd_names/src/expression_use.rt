@@ -3,10 +3,9 @@ ghost use Rattle.std.specs.Prelude.{◌≡◌, ◌++◌, OnOk};
 ghost use Rattle.std.specs.List.{flat_map};
 ghost use Rattle.pyd_names.specs.Uses as spec;
 
+use crate::name_use::{Manner, NameUse, add_name};
 use pyd_tree::{BinOp, CmpOp, Expr, Suffix};
 use pyd_value::{List, NoMemory};
-
-use crate::name_use::{Manner, NameUse, add_name};
 
 /// Puts the uses in an expression at the end; where it is a call, its name is used in this manner.
 #[cycle(use_parts)]
@@ -80,11 +79,7 @@ fn add_each(exprs: &[Expr], line: u32, out: &mut List<NameUse>) -> Result<(), No
 
 /// The right operands of operators.
 #[cycle(use_parts)]
-fn add_operands(
-    links: &[(BinOp, Expr)],
-    line: u32,
-    out: &mut List<NameUse>,
-) -> Result<(), NoMemory>
+fn add_operands(links: &[(BinOp, Expr)], line: u32, out: &mut List<NameUse>) -> Result<(), NoMemory>
     ensures { OnOk result (out.new ≡ out.old ++ flat_map (λ l. spec.part_uses line l.1) links.now) }
 {
     for link in links {
@@ -95,11 +90,7 @@ fn add_operands(
 
 /// The right operands of comparisons.
 #[cycle(use_parts)]
-fn add_compared(
-    links: &[(CmpOp, Expr)],
-    line: u32,
-    out: &mut List<NameUse>,
-) -> Result<(), NoMemory>
+fn add_compared(links: &[(CmpOp, Expr)], line: u32, out: &mut List<NameUse>) -> Result<(), NoMemory>
     ensures { OnOk result (out.new ≡ out.old ++ flat_map (λ l. spec.part_uses line l.1) links.now) }
 {
     for link in links {
@@ -110,11 +101,7 @@ fn add_compared(
 
 /// What stands in brackets, one after another.
 #[cycle(use_parts)]
-fn add_suffixes(
-    suffixes: &[Suffix],
-    line: u32,
-    out: &mut List<NameUse>,
-) -> Result<(), NoMemory>
+fn add_suffixes(suffixes: &[Suffix], line: u32, out: &mut List<NameUse>) -> Result<(), NoMemory>
     ensures { OnOk result (out.new ≡ out.old ++ flat_map (spec.bracket_uses line) suffixes.now) }
 {
     for suffix in suffixes {

@@ -3,11 +3,10 @@ ghost use Rattle.std.specs.Prelude.{◌≡◌, [], ◌∷◌, ◌++◌, IfOk, On
 ghost use Rattle.std.specs.List.{flat_map};
 ghost use Rattle.pyd_names.specs.Uses as spec;
 
+use crate::expression_use::{add_expression, add_maybe};
 use pyd_tree::{Arm, Block, Expr, Stmt, What};
 use pyd_value::{List, NoMemory, Text};
 use std::alloc::Global;
-
-use crate::expression_use::{add_expression, add_maybe};
 
 /// How a name is used.
 #[derive(Clone, Copy, Debug, PartialEq, Eq)]
@@ -76,8 +75,14 @@ fn add_what(what: &What, line: u32, out: &mut List<NameUse>) -> Result<(), NoMem
             add_arms(arms.as_slice(), out)?;
             add_otherwise(otherwise, out)
         }
-        What::While(test, body) => add_header(test, line, Manner::Called, body, out),
-        What::For(_, over, body) => add_header(over, line, Manner::Iterated, body, out),
+        What::While(test, body) => {
+            add_expression(test, line, Manner::Called, out)?;
+            add_block(body, out)
+        }
+        What::For(_, over, body) => {
+            add_expression(over, line, Manner::Iterated, out)?;
+            add_block(body, out)
+        }
         What::Return(value) => add_maybe(value, line, out),
         What::Assert(test, message) => {
             add_expression(test, line, Manner::Called, out)?;
@@ -87,27 +92,13 @@ fn add_what(what: &What, line: u32, out: &mut List<NameUse>) -> Result<(), NoMem
     }
 }
 
-/// An expression in a header, used in this manner where it is a call, and the suite.
-#[cycle(use_names)]
-fn add_header(
-    e: &Expr,
-    line: u32,
-    manner: Manner,
-    body: &Block,
-    out: &mut List<NameUse>,
-) -> Result<(), NoMemory>
-    ensures { OnOk result (out.new ≡ out.old ++ (spec.expression_uses e.now line manner ++ spec.uses body.now)) }
-{
-    add_expression(e, line, manner, out)?;
-    add_block(body, out)
-}
-
 #[cycle(use_names)]
 fn add_arms(arms: &[Arm], out: &mut List<NameUse>) -> Result<(), NoMemory>
     ensures { OnOk result (out.new ≡ out.old ++ flat_map spec.arm_uses arms.now) }
 {
     for arm in arms {
-        add_header(&arm.test, arm.line, Manner::Called, &arm.body, out)?;
+        add_expression(&arm.test, arm.line, Manner::Called, out)?;
+        add_block(&arm.body, out)?;
     }
     Ok(())
 }
