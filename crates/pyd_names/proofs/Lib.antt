@@ -1,3 +1,4 @@
 pub mod Lists
 pub mod Bound
 pub mod Used
+pub mod Values

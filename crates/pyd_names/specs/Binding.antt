@@ -239,6 +239,10 @@ constant_in (Function f) = None
 constant_in (Constant line name value) = Some (name, value)
 constant_in (Statement s) = None
 
+-- for each item the constant that it is, or none
+abbrev pub item_constants : File → List (Option (List ℕ × Value))
+item_constants file = map constant_in (lines file)
+
 -- `__name__`, which each script has
 abbrev pub name_constant : List ℕ × Value
 name_constant = (codes "__name__", Text (codes "__main__"))

@@ -51,6 +51,11 @@ abbrev pub values_in : List Form → Option (List Value)
 values_in [] = Some []
 values_in (f ∷ fs) = before (value_in f) (values_in fs)
 
+-- the tuple of values that are all there
+abbrev pub tuple_of : Option (List Value) → Option Value
+tuple_of (Some vs) = Some (Tuple vs)
+tuple_of None = None
+
 -- a tuple of values, if all are there
 abbrev pub tuple_form : Option (List Value) → Form
 tuple_form (Some vs) = other (Tuple vs)
