@@ -208,6 +208,11 @@ pub data Line : Type 0 where
   Constant : ℕ → List ℕ → Value → Line
   Statement : Stmt → Line
 
+-- whether the name of a plain assignment of a literal is bound once
+abbrev pub is_constant_literal : (List ℕ → Bool) → Option (List ℕ × Value) → Bool
+is_constant_literal once None = false
+is_constant_literal once (Some a) = once a.0
+
 -- a plain assignment of a literal is a constant where constants may stand and its name is bound once
 abbrev pub statement_line : (List ℕ → Bool) → Bool → Stmt → Option (List ℕ × Value) → Line
 statement_line once early s None = Statement s
@@ -238,10 +243,6 @@ constant_in (Import line from names) = None
 constant_in (Function f) = None
 constant_in (Constant line name value) = Some (name, value)
 constant_in (Statement s) = None
-
--- for each item the constant that it is, or none
-abbrev pub item_constants : File → List (Option (List ℕ × Value))
-item_constants file = map constant_in (lines file)
 
 -- `__name__`, which each script has
 abbrev pub name_constant : List ℕ × Value

@@ -1,5 +1,6 @@
 pub mod Literal
 pub mod Binding
+pub mod Once
 pub mod Resolution
 pub mod Uses
 pub mod WellFormed

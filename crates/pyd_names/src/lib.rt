@@ -9,11 +9,12 @@ mod literals;
 mod locals;
 mod module;
 mod name_use;
+mod once;
 
 pub use binding::{Binding, bindings, statement_bindings};
 pub use builtins::builtin_named;
-pub use line::{is_string_line, plain_assignment};
-pub use literals::literal;
+pub use line::{constants_may_follow, is_literal_assignment, is_string_line, plain_assignment};
+pub use literals::{is_literal, literal};
 pub use locals::{distinct, function_locals, module_variables};
-pub use module::{constants, item_constants, module_bindings, module_uses};
+pub use module::{constants, functions, module_bindings, module_statements, module_uses};
 pub use name_use::{Manner, NameUse, statement_uses, uses};

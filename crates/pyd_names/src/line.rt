@@ -1,8 +1,9 @@
 //! What the lines of a module are that aren't run: string lines and plain assignments.
-ghost use Rattle.std.specs.Prelude.{◌≡◌, option_map};
+ghost use Rattle.std.specs.Prelude.{◌≡◌, is_some, option_map};
 ghost use Rattle.pyd_names.specs.Binding as spec;
 
-use pyd_tree::{Expr, Stmt, Targets, What};
+use crate::literals::is_literal;
+use pyd_tree::{Expr, Item, Stmt, Targets, What};
 use pyd_value::{Text, Value};
 
 /// Whether a statement is an expression that is one string literal.
@@ -42,4 +43,24 @@ fn one_target(to: &Targets) -> Option<&Text>
         return None;
     }
     to.names.get(0)
+}
+
+/// Whether constants may follow an item: a string line, an import, a `def` or a plain assignment of a literal.
+pub fn constants_may_follow(item: &Item) -> bool
+    ensures { result ≡ spec.constants_may_follow item.now }
+{
+    match item {
+        Item::Import(_, _, _) | Item::Def(_) => true,
+        Item::Stmt(stmt) => is_string_line(stmt) || is_literal_assignment(stmt),
+    }
+}
+
+/// Whether a statement is a plain assignment of a literal.
+pub fn is_literal_assignment(stmt: &Stmt) -> bool
+    ensures { result ≡ is_some (spec.literal_assignment stmt.now) }
+{
+    match plain_assignment(stmt) {
+        Some((_, right)) => is_literal(right),
+        None => false,
+    }
 }

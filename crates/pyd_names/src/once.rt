@@ -1,0 +1,41 @@
+//! Which names are bound once.
+ghost use Rattle.std.specs.Prelude.{◌≡◌, ℕ, List as Sequence, IfOk};
+ghost use Rattle.pyd_names.specs.Binding as spec;
+ghost use Rattle.pyd_names.specs.Once.{has_once};
+
+use crate::Binding;
+use pyd_value::{NoMemory, Text};
+use std::alloc::Global;
+use std::collections::BTreeSet;
+
+/// The names that are bound, and those of them that are bound again.
+#[derive(Drop)]
+pub struct Once {
+    pub bound: BTreeSet<Text>,
+    pub again: BTreeSet<Text>,
+}
+
+impl Once {
+    /// Tells of each name whether these bindings have it once.
+    pub fn of(alloc: Global, bindings: &[Binding]) -> Result<Once, NoMemory>
+        ensures { IfOk result (λ once. (name : Sequence ℕ) → has_once once name ≡ spec.is_once name (spec.names_of bindings.now)) }
+    {
+        let mut bound = BTreeSet::new(alloc);
+        let mut again = BTreeSet::new(alloc);
+        for binding in bindings {
+            let name = binding.name.try_clone()?;
+            if !bound.insert(name)? {
+                let name = binding.name.try_clone()?;
+                again.insert(name)?;
+            }
+        }
+        Ok(Once { bound, again })
+    }
+
+    /// Whether a name is bound once.
+    pub fn has(&self, name: &Text) -> bool
+        ensures { result ≡ has_once self.now name.now }
+    {
+        self.bound.contains(name) && !self.again.contains(name)
+    }
+}
