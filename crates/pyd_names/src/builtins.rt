@@ -8,7 +8,14 @@ use pyd_value::{Builtin, Text};
 pub fn builtin_named(name: &Text) -> Option<Builtin>
     ensures { result ≡ spec.builtin_named name.now }
 {
-    match name.as_str() {
+    builtin_of(name.as_str())
+}
+
+/// The builtin whose name has these bytes, or none.
+fn builtin_of(name: &str) -> Option<Builtin>
+    ensures { result ≡ spec.builtin_named name.now }
+{
+    match name {
         "print" => Some(Builtin::Print),
         "len" => Some(Builtin::Len),
         "abs" => Some(Builtin::Abs),
