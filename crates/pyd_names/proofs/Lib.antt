@@ -6,3 +6,4 @@ pub mod Names
 pub mod Turns
 pub mod Counting
 pub mod Plain
+pub mod Singles

@@ -1,8 +1,12 @@
 -- Each name once: what is left after a name, and a walk's turn.
-use Rattle.std.proofs.Common.{◌≡◌, ℕ, ◌+◌, ◌<◌, ◌⊎◌, inl, inr, length, get_or, drop, Bool, true, false, not, cond, ◌&&◌, ◌||◌, List, [], ◌∷◌, ◌++◌, refl, sym, ◌∙◌, ap, append_assoc}
+use Rattle.std.proofs.Common.{◌≡◌, ℕ, ◌+◌, ◌<◌, ◌≤◌, count_by, subst, lit≤, ◌⊎◌, inl, inr, length, get_or, drop, Bool, true, false, not, cond, ◌&&◌, ◌||◌, List, [], ◌∷◌, ◌++◌, refl, sym, ◌∙◌, ap, append_assoc}
 use Rattle.std.specs.List.{filter}
 use Rattle.std.proofs.lemmas.List.{drop_more}
-use Rattle.pyd_names.specs.Binding.{same_name, distinct}
+use Rattle.std.proofs.lemmas.List.Sums.{length-filter}
+use Rattle.std.proofs.lemmas.Map.Views.{any-filter_same}
+use Rattle.pyd_names.specs.Binding.{same_name, is_among, distinct}
+use Rattle.pyd_names.specs.Laws.{DistinctNames}
+use Rattle.pyd_names.proofs.Names.{same_is, same-flip}
 
 kept : {X : Type 0} → (p q : X → Bool) (x : X) (xs : List X) (a b : Bool) → q x ≡ a → p x ≡ b
     → filter p (filter q xs) ≡ filter (λ y. q y && p y) xs → filter p (filter q (x ∷ xs)) ≡ filter (λ y. q y && p y) (x ∷ xs)
@@ -73,3 +77,61 @@ turn_by_test names out out' whole i n seen seen' within is added so_far (inr (ol
     ap (λ ms. ms ++ filter (λ m. not (seen' m)) (distinct (drop (i + 1) names))) kept
     ∙ turn_old n (drop (i + 1) names) out whole seen seen' added old
     (ap (λ ms. out ++ filter (λ m. not (seen m)) (distinct ms)) (sym (in_turn names i n within is)) ∙ so_far)
+
+-- whether a name is among the others, once the first is left out of them
+either_way : (first flipped rest : Bool) → first ≡ flipped → (first || (not flipped && rest)) ≡ (first || rest)
+either_way true flipped rest e = refl
+either_way false false rest e = refl
+either_way false true rest e = cc
+
+-- the distinct names are the names
+pub is_among-distinct : (ns : List (List ℕ)) (n : List ℕ) → is_among (distinct ns) n ≡ is_among ns n
+is_among-distinct [] n = refl
+is_among-distinct (m ∷ ms) n =
+    ap (λ b. same_name n m || b)
+    (any-filter_same (same_name n) (λ k. not (same_name m k)) (not (same_name m n)) (λ k h. ap (λ x. not (same_name m x)) (sym (same_is n k h))) (distinct ms))
+    ∙ ap (λ b. same_name n m || (not (same_name m n) && b)) (is_among-distinct ms n)
+    ∙ either_way (same_name n m) (same_name m n) (is_among ms n) (same-flip n m)
+
+-- nothing passes
+filter-none : {X : Type 0} → (xs : List X) → filter (λ x. false) xs ≡ []
+filter-none [] = refl
+filter-none (x ∷ xs) = filter-none xs
+
+both_not : (b : Bool) → (not b && b) ≡ false
+both_not true = refl
+both_not false = refl
+
+beside : (b c : Bool) → (c ≡ true → b ≡ false) → (not b && c) ≡ c
+beside false c h = refl
+beside true false h = refl
+beside true true h = cc (h refl)
+
+once_more : (n m : List ℕ) (ds : List (List ℕ)) (b : Bool) → same_name n m ≡ b → length (filter (same_name n) ds) ≤ 1
+    → length (cond b (m ∷ filter (same_name n) (filter (λ k. not (same_name m k)) ds)) (filter (same_name n) (filter (λ k. not (same_name m k)) ds))) ≤ 1
+once_more n m ds true h more =
+    let none : filter (same_name n) (filter (λ k. not (same_name m k)) ds) ≡ [] =
+    filter-filter (same_name n) (λ k. not (same_name m k)) ds
+    ∙ filter-same _ (λ y. false) (λ y. ap (λ x. not (same_name x y) && same_name n y) (sym (same_is n m h)) ∙ both_not (same_name n y)) ds
+    ∙ filter-none ds in
+    let P : List (List ℕ) → Type 0 = λ ks. length (m ∷ ks) ≤ 1 in
+    subst P (sym none) (lit≤ tt)
+once_more n m ds false h more =
+    let same : filter (same_name n) (filter (λ k. not (same_name m k)) ds) ≡ filter (same_name n) ds =
+    filter-filter (same_name n) (λ k. not (same_name m k)) ds
+    ∙ filter-same _ (same_name n) (λ y. beside (same_name m y) (same_name n y) (λ e. ap (same_name m) (sym (same_is n y e)) ∙ same-flip m n ∙ h)) ds in
+    let P : List (List ℕ) → Type 0 = λ ks. length ks ≤ 1 in
+    subst P (sym same) more
+
+once_kept : (ns : List (List ℕ)) (n : List ℕ) → length (filter (same_name n) (distinct ns)) ≤ 1
+once_kept [] n = lit≤ tt
+once_kept (m ∷ ms) n = once_more n m (distinct ms) (same_name n m) refl (once_kept ms n)
+
+-- each distinct name is there once at most
+pub count-distinct : (ns : List (List ℕ)) (n : List ℕ) → count_by (same_name n) (distinct ns) ≤ 1
+count-distinct ns n =
+    let P : ℕ → Type 0 = λ k. k ≤ 1 in
+    subst P (length-filter (same_name n) (distinct ns)) (once_kept ns n)
+
+pub distinct_names : DistinctNames
+distinct_names = record { same = is_among-distinct; once = count-distinct }

@@ -1,7 +1,15 @@
 -- Values of literals, one behind another.
-use Rattle.std.proofs.Common.{◌≡◌, ◌&&◌, List, [], ◌∷◌, ◌++◌, Option, Some, None, is_some, refl}
-use Rattle.pyd_names.specs.Literal.{before}
-use Rattle.pyd_value.specs.declared.value.Value.{Value}
+use Rattle.std.proofs.Common.{◌≡◌, ℕ, pos, negsuc, sym, ap, ◌∙◌, ◌-ℤ◌, map, rules, ◌&&◌, List, [], ◌∷◌, ◌++◌, Option, Some, None, is_some, refl}
+use Rattle.pyd_names.specs.Literal.{before, literal, value_in, token_form, form_of, values_in, tuple_of}
+use Rattle.pyd_names.specs.Laws.{LiteralByKind}
+use Rattle.pyd_value.specs.declared.value.Value.{Value, Int, out-Value, the_lemmas as value_lemmas}
+use Rattle.pyd_value.specs.declared.value.Value.TheVariants as value
+use Rattle.pyd_value.specs.declared.value.Value.TheOpen.{Value-F}
+use Rattle.pyd_value.specs.declared.value.Value.TheViews.{roll-Value, roll-out-Value}
+use Rattle.pyd_value.specs.declared.operator.BinOp.{BinOp}
+use Rattle.pyd_value.specs.declared.operator.UnOp.TheVariants.{Neg}
+use Rattle.pyd_tree.specs.declared.expression.Expr.{Expr, the_lemmas}
+use Rattle.pyd_tree.specs.declared.expression.Expr.TheVariants as expression
 
 -- these values before others, if the others are there
 abbrev pub behind : List Value → Option (List Value) → Option (List Value)
@@ -13,3 +21,42 @@ pub is_some-before : (v : Option Value) (vs : Option (List Value)) → is_some (
 is_some-before None vs = refl
 is_some-before (Some v) None = refl
 is_some-before (Some v) (Some vs) = refl
+
+opened : (v : Value) (f : Value-F Value) → roll-Value f ≡ v → value_in (token_form v f) ≡ Some v
+opened v (Value-F.Int (pos n)) is = ap Some (sym (value.rolls-Int (pos n)) ∙ is)
+opened v (Value-F.Int (negsuc n)) is = refl
+opened v (Value-F.Bool b) is = refl
+opened v (Value-F.Text s) is = refl
+opened v (Value-F.Tuple vs) is = refl
+opened v Value-F.None is = refl
+
+token_literal : (v : Value) → literal (expression.Lit v) ≡ Some v
+token_literal v =
+    let one : literal (expression.Lit v) ≡ value_in (token_form v (out-Value v)) = search (rules, the_lemmas) in
+    one ∙ opened v (out-Value v) (roll-out-Value v)
+
+negative_literal : (n : ℕ) → literal (expression.Unary Neg (expression.Lit (Int (pos n)))) ≡ Some (Int (pos 0 -ℤ pos n))
+negative_literal n = search (rules, the_lemmas, value_lemmas)
+
+tuple_literal : (es : List Expr) → literal (expression.Tuple es) ≡ tuple_of (values_in (map form_of es))
+tuple_literal es = search (rules, the_lemmas)
+
+name_literal : (n : List ℕ) → literal (expression.Name n) ≡ None
+name_literal n = search (rules, the_lemmas)
+
+chain_literal : (e : Expr) (ls : List (BinOp × Expr)) → literal (expression.Chain e ls) ≡ None
+chain_literal e ls = search (rules, the_lemmas)
+
+call_literal : (n : List ℕ) (es : List Expr) → literal (expression.Call n es) ≡ None
+call_literal n es = search (rules, the_lemmas)
+
+pub by_kind : LiteralByKind
+by_kind =
+    record {
+      token = token_literal;
+      negative = negative_literal;
+      tuple = tuple_literal;
+      name = name_literal;
+      chain = chain_literal;
+      call = call_literal;
+    }

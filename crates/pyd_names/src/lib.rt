@@ -4,6 +4,7 @@
 mod binding;
 mod builtins;
 mod expression_use;
+mod laws;
 mod line;
 mod literals;
 mod locals;
@@ -13,6 +14,10 @@ mod once;
 
 pub use binding::{Binding, bindings, statement_bindings};
 pub use builtins::builtin_named;
+pub use laws::{
+    bindings_go_by_kind, constants_are_bound_once, distinct_names_are_the_names,
+    literals_go_by_kind, names_resolve_by_rule, uses_go_by_kind,
+};
 pub use line::{constants_may_follow, is_literal_assignment, is_string_line, plain_assignment};
 pub use literals::{is_literal, literal};
 pub use locals::{distinct, function_locals, module_variables};

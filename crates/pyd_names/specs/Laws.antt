@@ -1,0 +1,125 @@
+-- What the definitions say of each construct, and the rules by which a name is resolved, to be read aloud.
+use Rattle.std.specs.Prelude.{◌≡◌, ◌≤◌, ℕ, pos, ◌-ℤ◌, List, [], ◌∷◌, ◌++◌, map, count_by, Bool, true, false, Option, Some, None, All}
+use Rattle.std.specs.List.{filter_map, flat_map}
+use Rattle.pyd_value.specs.declared.value.Value.{Value, Int, Bool as Truth, Text, Tuple}
+use Rattle.pyd_value.specs.declared.value.Value.TheVariants as value
+use Rattle.pyd_value.specs.declared.operator.BinOp.{BinOp}
+use Rattle.pyd_value.specs.declared.operator.Builtin.{Builtin as BuiltinFunction}
+use Rattle.pyd_value.specs.declared.operator.CmpOp.{CmpOp}
+use Rattle.pyd_value.specs.declared.operator.UnOp.{UnOp}
+use Rattle.pyd_value.specs.declared.operator.UnOp.TheVariants.{Neg}
+use Rattle.pyd_tree.specs.declared.expression.Expr.{Expr}
+use Rattle.pyd_tree.specs.declared.expression.Expr.TheVariants as expression
+use Rattle.pyd_tree.specs.declared.expression.Suffix.{Suffix}
+use Rattle.pyd_tree.specs.declared.expression.Suffix.TheVariants as suffix
+use Rattle.pyd_tree.specs.declared.statement.Targets.{Targets}
+use Rattle.pyd_tree.specs.declared.statement.Block.{Block, out-Block}
+use Rattle.pyd_tree.specs.declared.statement.Arm.{Arm, out-Arm}
+use Rattle.pyd_tree.specs.declared.statement.Stmt.{Stmt}
+use Rattle.pyd_tree.specs.declared.statement.What.{What}
+use Rattle.pyd_tree.specs.declared.statement.What.TheVariants as what
+use Rattle.pyd_tree.specs.declared.file.File.{File}
+use Rattle.pyd_names.specs.declared.name_use.Manner.{Manner}
+use Rattle.pyd_names.specs.declared.name_use.Manner.TheVariants.{Read, Called, Iterated}
+use Rattle.pyd_names.specs.Literal.{literal, form_of, values_in, tuple_of}
+use Rattle.pyd_names.specs.Binding as binding
+use Rattle.pyd_names.specs.Resolution.{Resolution, resolved, constant_named, function_named, builtin_named}
+use Rattle.pyd_names.specs.Resolution as resolution
+use Rattle.pyd_names.specs.Uses as uses
+
+-- what is a literal, and its value
+pub record LiteralByKind : Type 0 where
+  pub token : (v : Value) → literal (expression.Lit v) ≡ Some v
+  pub negative : (n : ℕ) → literal (expression.Unary Neg (expression.Lit (Int (pos n)))) ≡ Some (Int (pos 0 -ℤ pos n))
+  pub tuple : (es : List Expr) → literal (expression.Tuple es) ≡ tuple_of (values_in (map form_of es))
+  pub name : (n : List ℕ) → literal (expression.Name n) ≡ None
+  pub chain : (e : Expr) (ls : List (BinOp × Expr)) → literal (expression.Chain e ls) ≡ None
+  pub call : (n : List ℕ) (es : List Expr) → literal (expression.Call n es) ≡ None
+
+-- what each kind of statement binds in its line
+pub record BindingsByKind : Type 0 where
+  pub expression : (e : Expr) (line : ℕ) → binding.what_bindings (what.Expr e) line ≡ []
+  pub assignment : (to : Targets) (e : Expr) (line : ℕ) → binding.what_bindings (what.Assign to e) line ≡ map (binding.bound_in line) to.names
+  pub augmented : (n : List ℕ) (op : BinOp) (e : Expr) (line : ℕ) → binding.what_bindings (what.Aug n op e) line ≡ binding.bound_in line n ∷ []
+  pub choice : (arms : List Arm) (otherwise : Option Block) (line : ℕ)
+      → binding.what_bindings (what.If arms otherwise) line ≡ flat_map binding.arm_bindings arms ++ binding.otherwise_bindings otherwise
+  pub while : (test : Expr) (body : Block) (line : ℕ) → binding.what_bindings (what.While test body) line ≡ binding.bindings body
+  pub for : (to : Targets) (over : Expr) (body : Block) (line : ℕ)
+      → binding.what_bindings (what.For to over body) line ≡ map (binding.bound_in line) to.names ++ binding.bindings body
+  pub block : (b : Block) → binding.bindings b ≡ flat_map binding.statement_bindings (out-Block b).stmts
+  pub statement : (s : Stmt) → binding.statement_bindings s ≡ binding.what_bindings s.what s.line
+  pub arm : (a : Arm) → binding.arm_bindings a ≡ binding.bindings (out-Arm a).body
+
+-- what each kind of expression uses; a call's name is used in the manner in which the call stands
+pub record UsesByKind : Type 0 where
+  pub literal : (v : Value) (line : ℕ) (m : Manner) → uses.expression_uses (expression.Lit v) line m ≡ []
+  pub name : (n : List ℕ) (line : ℕ) (m : Manner) → uses.expression_uses (expression.Name n) line m ≡ uses.used line n Read ∷ []
+  pub tuple : (es : List Expr) (line : ℕ) (m : Manner) → uses.expression_uses (expression.Tuple es) line m ≡ flat_map (uses.part_uses line) es
+  pub unary : (op : UnOp) (e : Expr) (line : ℕ) (m : Manner) → uses.expression_uses (expression.Unary op e) line m ≡ uses.part_uses line e
+  pub chain : (e : Expr) (ls : List (BinOp × Expr)) (line : ℕ) (m : Manner)
+      → uses.expression_uses (expression.Chain e ls) line m ≡ uses.part_uses line e ++ flat_map (λ l. uses.part_uses line l.1) ls
+  pub power : (b e : Expr) (line : ℕ) (m : Manner) → uses.expression_uses (expression.Power b e) line m ≡ uses.part_uses line b ++ uses.part_uses line e
+  pub and : (es : List Expr) (line : ℕ) (m : Manner) → uses.expression_uses (expression.And es) line m ≡ flat_map (uses.part_uses line) es
+  pub or : (es : List Expr) (line : ℕ) (m : Manner) → uses.expression_uses (expression.Or es) line m ≡ flat_map (uses.part_uses line) es
+  pub compare : (e : Expr) (ls : List (CmpOp × Expr)) (line : ℕ) (m : Manner)
+      → uses.expression_uses (expression.Compare e ls) line m ≡ uses.part_uses line e ++ flat_map (λ l. uses.part_uses line l.1) ls
+  pub choice : (c l r : Expr) (line : ℕ) (m : Manner)
+      → uses.expression_uses (expression.If c l r) line m ≡ uses.part_uses line l ++ (uses.part_uses line c ++ uses.part_uses line r)
+  pub call : (n : List ℕ) (es : List Expr) (line : ℕ) (m : Manner)
+      → uses.expression_uses (expression.Call n es) line m ≡ uses.used line n m ∷ flat_map (uses.part_uses line) es
+  pub suffixed : (e : Expr) (ss : List Suffix) (line : ℕ) (m : Manner)
+      → uses.expression_uses (expression.Suffixed e ss) line m ≡ uses.part_uses line e ++ flat_map (uses.bracket_uses line) ss
+  pub index : (e : Expr) (line : ℕ) → uses.bracket_uses line (suffix.Index e) ≡ uses.part_uses line e
+  pub slice : (l u : Option Expr) (line : ℕ) → uses.bracket_uses line (suffix.Slice l u) ≡ uses.maybe_uses line l ++ uses.maybe_uses line u
+
+-- what each kind of statement uses in its line
+pub record StatementUsesByKind : Type 0 where
+  pub expression : (e : Expr) (line : ℕ) → uses.what_uses (what.Expr e) line ≡ uses.part_uses line e
+  pub assignment : (to : Targets) (e : Expr) (line : ℕ) → uses.what_uses (what.Assign to e) line ≡ uses.part_uses line e
+  pub augmented : (n : List ℕ) (op : BinOp) (e : Expr) (line : ℕ) → uses.what_uses (what.Aug n op e) line ≡ uses.augmented_uses line n e
+  pub choice : (arms : List Arm) (otherwise : Option Block) (line : ℕ)
+      → uses.what_uses (what.If arms otherwise) line ≡ flat_map uses.arm_uses arms ++ uses.otherwise_uses otherwise
+  pub while : (test : Expr) (body : Block) (line : ℕ) → uses.what_uses (what.While test body) line ≡ uses.part_uses line test ++ uses.uses body
+  pub for : (to : Targets) (over : Expr) (body : Block) (line : ℕ)
+      → uses.what_uses (what.For to over body) line ≡ uses.expression_uses over line Iterated ++ uses.uses body
+  pub return : (e : Option Expr) (line : ℕ) → uses.what_uses (what.Return e) line ≡ uses.maybe_uses line e
+  pub assert : (test : Expr) (message : Option Expr) (line : ℕ)
+      → uses.what_uses (what.Assert test message) line ≡ uses.part_uses line test ++ uses.maybe_uses line message
+  pub block : (b : Block) → uses.uses b ≡ flat_map uses.statement_uses (out-Block b).stmts
+  pub statement : (s : Stmt) → uses.statement_uses s ≡ uses.what_uses s.what s.line
+  pub arm : (a : Arm) → uses.arm_uses a ≡ uses.part_uses (out-Arm a).line (out-Arm a).test ++ uses.uses (out-Arm a).body
+
+-- a constant of the file is bound once by the module's statements
+abbrev pub ConstantsAreBoundOnce : Type 0
+ConstantsAreBoundOnce = (file : File) → All (λ c. binding.binds_once file c.0 ≡ true) (filter_map binding.constant_in (binding.lines file))
+
+-- each name of a list is among its distinct names, no other is, and each is there once at most
+pub record DistinctNames : Type 0 where
+  pub same : (ns : List (List ℕ)) (n : List ℕ) → binding.is_among (binding.distinct ns) n ≡ binding.is_among ns n
+  pub once : (ns : List (List ℕ)) (n : List ℕ) → count_by (binding.same_name n) (binding.distinct ns) ≤ 1
+
+-- the rules of resolving, in their order
+pub record ResolvesByRule (file : File) (routine : ℕ) (name : List ℕ) : Type 0 where
+  pub local : binding.is_among (binding.locals file routine) name ≡ true → resolved file routine name ≡ resolution.Local
+  pub constant : (v : Value) → binding.is_among (binding.locals file routine) name ≡ false
+      → constant_named file name ≡ Some v → resolved file routine name ≡ resolution.Constant v
+  pub function : (k : ℕ) → binding.is_among (binding.locals file routine) name ≡ false → constant_named file name ≡ None
+      → function_named file name ≡ Some k → resolved file routine name ≡ resolution.Function k
+  pub imported : binding.is_among (binding.locals file routine) name ≡ false → constant_named file name ≡ None
+      → function_named file name ≡ None → binding.is_among (binding.imported_names file) name ≡ true
+      → resolved file routine name ≡ resolution.Imported
+  pub builtin : (b : BuiltinFunction) → binding.is_among (binding.locals file routine) name ≡ false → constant_named file name ≡ None
+      → function_named file name ≡ None → binding.is_among (binding.imported_names file) name ≡ false
+      → builtin_named name ≡ Some b → resolved file routine name ≡ resolution.Builtin b
+  pub variable : binding.is_among (binding.locals file routine) name ≡ false → constant_named file name ≡ None
+      → function_named file name ≡ None → binding.is_among (binding.imported_names file) name ≡ false
+      → builtin_named name ≡ None → binding.is_among (binding.module_variables file) name ≡ true
+      → resolved file routine name ≡ resolution.Variable
+  pub unbound : binding.is_among (binding.locals file routine) name ≡ false → constant_named file name ≡ None
+      → function_named file name ≡ None → binding.is_among (binding.imported_names file) name ≡ false
+      → builtin_named name ≡ None → binding.is_among (binding.module_variables file) name ≡ false
+      → resolved file routine name ≡ resolution.Unbound
+
+-- each name of each routine resolves by the rules
+abbrev pub NamesResolveByRule : Type 0
+NamesResolveByRule = (file : File) (routine : ℕ) (name : List ℕ) → ResolvesByRule file routine name
