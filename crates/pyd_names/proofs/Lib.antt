@@ -7,3 +7,4 @@ pub mod Turns
 pub mod Counting
 pub mod Plain
 pub mod Singles
+pub mod Formed

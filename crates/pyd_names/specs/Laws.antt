@@ -1,13 +1,13 @@
 -- What the definitions say of each construct, and the rules by which a name is resolved, to be read aloud.
-use Rattle.std.specs.Prelude.{◌≡◌, ◌≤◌, ℕ, pos, ◌-ℤ◌, List, [], ◌∷◌, ◌++◌, map, count_by, Bool, true, false, Option, Some, None, All}
-use Rattle.std.specs.List.{filter_map, flat_map}
+use Rattle.std.specs.Prelude.{◌≡◌, ◌≤◌, ℕ, pos, ◌-ℤ◌, List, [], ◌∷◌, ◌++◌, map, count_by, Bool, true, false, ◌&&◌, Option, Some, None, All}
+use Rattle.std.specs.List.{filter_map, flat_map, list_all}
 use Rattle.pyd_value.specs.declared.value.Value.{Value, Int, Bool as Truth, Text, Tuple}
 use Rattle.pyd_value.specs.declared.value.Value.TheVariants as value
 use Rattle.pyd_value.specs.declared.operator.BinOp.{BinOp}
 use Rattle.pyd_value.specs.declared.operator.Builtin.{Builtin as BuiltinFunction}
 use Rattle.pyd_value.specs.declared.operator.CmpOp.{CmpOp}
 use Rattle.pyd_value.specs.declared.operator.UnOp.{UnOp}
-use Rattle.pyd_value.specs.declared.operator.UnOp.TheVariants.{Neg}
+use Rattle.pyd_value.specs.declared.operator.UnOp.TheVariants.{Neg, Pos, Not}
 use Rattle.pyd_tree.specs.declared.expression.Expr.{Expr}
 use Rattle.pyd_tree.specs.declared.expression.Expr.TheVariants as expression
 use Rattle.pyd_tree.specs.declared.expression.Suffix.{Suffix}
@@ -21,20 +21,30 @@ use Rattle.pyd_tree.specs.declared.statement.What.TheVariants as what
 use Rattle.pyd_tree.specs.declared.file.File.{File}
 use Rattle.pyd_names.specs.declared.name_use.Manner.{Manner}
 use Rattle.pyd_names.specs.declared.name_use.Manner.TheVariants.{Read, Called, Iterated}
-use Rattle.pyd_names.specs.Literal.{literal, form_of, values_in, tuple_of}
+use Rattle.pyd_names.specs.Literal.{literal, value_in, negated, form_of, values_in, tuple_of}
 use Rattle.pyd_names.specs.Binding as binding
 use Rattle.pyd_names.specs.Resolution.{Resolution, resolved, constant_named, function_named, builtin_named}
 use Rattle.pyd_names.specs.Resolution as resolution
 use Rattle.pyd_names.specs.Uses as uses
+use Rattle.pyd_names.specs.WellFormed.{is_token_value, some_are, two_are, formed_targets, is_formed_expression, is_formed_suffix, is_formed_maybe, is_formed_what, is_formed_arm, is_formed_block, is_formed_statement, is_formed_otherwise}
 
 -- what is a literal, and its value
 pub record LiteralByKind : Type 0 where
   pub token : (v : Value) → literal (expression.Lit v) ≡ Some v
+  pub sign : (e : Expr) → literal (expression.Unary Neg e) ≡ value_in (negated (form_of e))
+  pub plus : (e : Expr) → literal (expression.Unary Pos e) ≡ None
+  pub negation : (e : Expr) → literal (expression.Unary Not e) ≡ None
   pub negative : (n : ℕ) → literal (expression.Unary Neg (expression.Lit (Int (pos n)))) ≡ Some (Int (pos 0 -ℤ pos n))
   pub tuple : (es : List Expr) → literal (expression.Tuple es) ≡ tuple_of (values_in (map form_of es))
   pub name : (n : List ℕ) → literal (expression.Name n) ≡ None
   pub chain : (e : Expr) (ls : List (BinOp × Expr)) → literal (expression.Chain e ls) ≡ None
+  pub power : (b e : Expr) → literal (expression.Power b e) ≡ None
+  pub and : (es : List Expr) → literal (expression.And es) ≡ None
+  pub or : (es : List Expr) → literal (expression.Or es) ≡ None
+  pub compare : (e : Expr) (ls : List (CmpOp × Expr)) → literal (expression.Compare e ls) ≡ None
+  pub choice : (c l r : Expr) → literal (expression.If c l r) ≡ None
   pub call : (n : List ℕ) (es : List Expr) → literal (expression.Call n es) ≡ None
+  pub suffixed : (e : Expr) (ss : List Suffix) → literal (expression.Suffixed e ss) ≡ None
 
 -- what each kind of statement binds in its line
 pub record BindingsByKind : Type 0 where
@@ -88,6 +98,44 @@ pub record StatementUsesByKind : Type 0 where
   pub block : (b : Block) → uses.uses b ≡ flat_map uses.statement_uses (out-Block b).stmts
   pub statement : (s : Stmt) → uses.statement_uses s ≡ uses.what_uses s.what s.line
   pub arm : (a : Arm) → uses.arm_uses a ≡ uses.part_uses (out-Arm a).line (out-Arm a).test ++ uses.uses (out-Arm a).body
+
+-- what it says of each kind of expression to be well formed
+pub record FormedByKind : Type 0 where
+  pub literal : (v : Value) → is_formed_expression (expression.Lit v) ≡ is_token_value v
+  pub name : (n : List ℕ) → is_formed_expression (expression.Name n) ≡ true
+  pub tuple : (es : List Expr) → is_formed_expression (expression.Tuple es) ≡ list_all is_formed_expression es
+  pub unary : (op : UnOp) (e : Expr) → is_formed_expression (expression.Unary op e) ≡ is_formed_expression e
+  pub chain : (e : Expr) (ls : List (BinOp × Expr))
+      → is_formed_expression (expression.Chain e ls) ≡ some_are ls && (is_formed_expression e && list_all (λ l. is_formed_expression l.1) ls)
+  pub power : (b e : Expr) → is_formed_expression (expression.Power b e) ≡ is_formed_expression b && is_formed_expression e
+  pub and : (es : List Expr) → is_formed_expression (expression.And es) ≡ two_are es && list_all is_formed_expression es
+  pub or : (es : List Expr) → is_formed_expression (expression.Or es) ≡ two_are es && list_all is_formed_expression es
+  pub compare : (e : Expr) (ls : List (CmpOp × Expr))
+      → is_formed_expression (expression.Compare e ls) ≡ some_are ls && (is_formed_expression e && list_all (λ l. is_formed_expression l.1) ls)
+  pub choice : (c l r : Expr)
+      → is_formed_expression (expression.If c l r) ≡ is_formed_expression c && (is_formed_expression l && is_formed_expression r)
+  pub call : (n : List ℕ) (es : List Expr) → is_formed_expression (expression.Call n es) ≡ list_all is_formed_expression es
+  pub suffixed : (e : Expr) (ss : List Suffix)
+      → is_formed_expression (expression.Suffixed e ss) ≡ some_are ss && (is_formed_expression e && list_all is_formed_suffix ss)
+  pub index : (e : Expr) → is_formed_suffix (suffix.Index e) ≡ is_formed_expression e
+  pub slice : (l u : Option Expr) → is_formed_suffix (suffix.Slice l u) ≡ is_formed_maybe l && is_formed_maybe u
+
+-- what it says of each kind of statement to be well formed
+pub record StatementsFormedByKind : Type 0 where
+  pub expression : (e : Expr) → is_formed_what (what.Expr e) ≡ is_formed_expression e
+  pub assignment : (to : Targets) (e : Expr) → is_formed_what (what.Assign to e) ≡ formed_targets to.tuple to.names && is_formed_expression e
+  pub augmented : (n : List ℕ) (op : BinOp) (e : Expr) → is_formed_what (what.Aug n op e) ≡ is_formed_expression e
+  pub choice : (arms : List Arm) (otherwise : Option Block)
+      → is_formed_what (what.If arms otherwise) ≡ some_are arms && (list_all is_formed_arm arms && is_formed_otherwise otherwise)
+  pub while : (test : Expr) (body : Block) → is_formed_what (what.While test body) ≡ is_formed_expression test && is_formed_block body
+  pub for : (to : Targets) (over : Expr) (body : Block)
+      → is_formed_what (what.For to over body) ≡ formed_targets to.tuple to.names && (is_formed_expression over && is_formed_block body)
+  pub return : (e : Option Expr) → is_formed_what (what.Return e) ≡ is_formed_maybe e
+  pub assert : (test : Expr) (message : Option Expr)
+      → is_formed_what (what.Assert test message) ≡ is_formed_expression test && is_formed_maybe message
+  pub block : (b : Block) → is_formed_block b ≡ some_are (out-Block b).stmts && list_all is_formed_statement (out-Block b).stmts
+  pub statement : (s : Stmt) → is_formed_statement s ≡ is_formed_what s.what
+  pub arm : (a : Arm) → is_formed_arm a ≡ is_formed_expression (out-Arm a).test && is_formed_block (out-Arm a).body
 
 -- a constant of the file is bound once by the module's statements
 abbrev pub ConstantsAreBoundOnce : Type 0

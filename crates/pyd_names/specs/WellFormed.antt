@@ -11,6 +11,8 @@ use Rattle.pyd_tree.specs.declared.expression.Suffix.{Suffix, fold-Suffix}
 use Rattle.pyd_tree.specs.declared.statement.Targets.{Targets}
 use Rattle.pyd_tree.specs.declared.statement.Block.{Block, fold-Block}
 use Rattle.pyd_tree.specs.declared.statement.Stmt.{Stmt, fold-Stmt}
+use Rattle.pyd_tree.specs.declared.statement.Arm.{Arm, fold-Arm}
+use Rattle.pyd_tree.specs.declared.statement.What.{What, fold-What}
 use Rattle.pyd_tree.specs.declared.statement.What.TheOpen.{What-F, Arm-F, Block-F, Stmt-F}
 use Rattle.pyd_tree.specs.declared.file.File.{File}
 use Rattle.pyd_tree.specs.declared.file.Item.{Item}
@@ -149,6 +151,10 @@ form_suffix (Suffix-F.Slice lower upper) = or_true lower && or_true upper
 abbrev pub is_formed_expression : Expr → Bool
 is_formed_expression = fold-Expr Bool Bool form_expression form_suffix
 
+-- whether what stands in brackets is well formed
+abbrev pub is_formed_suffix : Suffix → Bool
+is_formed_suffix = fold-Suffix Bool Bool form_expression form_suffix
+
 -- whether an expression is well formed, if it is there
 abbrev pub is_formed_maybe : Option Expr → Bool
 is_formed_maybe None = true
@@ -197,6 +203,19 @@ is_formed_block = fold-Block Bool Bool Bool Bool form_what form_arm form_block f
 -- whether a statement is well formed
 abbrev pub is_formed_statement : Stmt → Bool
 is_formed_statement = fold-Stmt Bool Bool Bool Bool form_what form_arm form_block form_statement
+
+-- whether an arm is well formed
+abbrev pub is_formed_arm : Arm → Bool
+is_formed_arm = fold-Arm Bool Bool Bool Bool form_what form_arm form_block form_statement
+
+-- whether what a statement does is well formed
+abbrev pub is_formed_what : What → Bool
+is_formed_what = fold-What Bool Bool Bool Bool form_what form_arm form_block form_statement
+
+-- whether the suite of an `else` is well formed, if there is one
+abbrev pub is_formed_otherwise : Option Block → Bool
+is_formed_otherwise None = true
+is_formed_otherwise (Some block) = is_formed_block block
 
 -- whether an item is well formed
 abbrev pub is_formed_item : Item → Bool

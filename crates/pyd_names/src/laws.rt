@@ -1,5 +1,5 @@
 //! The laws of the definitions, each the contract of a function that does nothing.
-ghost use Rattle.pyd_names.specs.Laws.{BindingsByKind, ConstantsAreBoundOnce, DistinctNames, LiteralByKind, NamesResolveByRule, StatementUsesByKind, UsesByKind};
+ghost use Rattle.pyd_names.specs.Laws.{BindingsByKind, ConstantsAreBoundOnce, DistinctNames, FormedByKind, LiteralByKind, NamesResolveByRule, StatementUsesByKind, StatementsFormedByKind, UsesByKind};
 
 /// What is a literal, and its value.
 pub fn literals_go_by_kind()
@@ -30,4 +30,10 @@ pub fn distinct_names_are_the_names()
 /// A name resolves by the rules, in their order.
 pub fn names_resolve_by_rule()
     ensures { NamesResolveByRule }
+{}
+
+/// What it says of each kind of expression and of statement to be well formed.
+pub fn forms_go_by_kind()
+    ensures expressions { FormedByKind }
+    ensures statements { StatementsFormedByKind }
 {}

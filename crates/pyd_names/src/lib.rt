@@ -15,7 +15,7 @@ mod once;
 pub use binding::{Binding, bindings, statement_bindings};
 pub use builtins::builtin_named;
 pub use laws::{
-    bindings_go_by_kind, constants_are_bound_once, distinct_names_are_the_names,
+    bindings_go_by_kind, constants_are_bound_once, distinct_names_are_the_names, forms_go_by_kind,
     literals_go_by_kind, names_resolve_by_rule, uses_go_by_kind,
 };
 pub use line::{constants_may_follow, is_literal_assignment, is_string_line, plain_assignment};
