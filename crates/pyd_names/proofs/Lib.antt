@@ -8,3 +8,4 @@ pub mod Counting
 pub mod Plain
 pub mod Singles
 pub mod Formed
+pub mod Parts

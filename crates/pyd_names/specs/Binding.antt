@@ -244,6 +244,17 @@ constant_in (Function f) = None
 constant_in (Constant line name value) = Some (name, value)
 constant_in (Statement s) = None
 
+-- whether a line is a constant
+abbrev pub is_constant : Line → Bool
+is_constant (Import line from names) = false
+is_constant (Function f) = false
+is_constant (Constant line name value) = true
+is_constant (Statement s) = false
+
+-- for each item of a file whether it is a constant
+abbrev pub constant_marks : File → List Bool
+constant_marks file = map is_constant (lines file)
+
 -- `__name__`, which each script has
 abbrev pub name_constant : List ℕ × Value
 name_constant = (codes "__name__", Text (codes "__main__"))

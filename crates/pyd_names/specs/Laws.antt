@@ -1,8 +1,9 @@
 -- What the definitions say of each construct, and the rules by which a name is resolved, to be read aloud.
-use Rattle.std.specs.Prelude.{◌≡◌, ◌≤◌, ℕ, pos, ◌-ℤ◌, List, [], ◌∷◌, ◌++◌, map, count_by, Bool, true, false, ◌&&◌, Option, Some, None, All}
+use Rattle.std.specs.Prelude.{◌≡◌, ◌≤◌, ℕ, ◌+◌, length, pos, ◌-ℤ◌, List, [], ◌∷◌, ◌++◌, map, count_by, Bool, true, false, ◌&&◌, Option, Some, None, All}
 use Rattle.std.specs.List.{filter_map, flat_map, list_all}
 use Rattle.pyd_value.specs.declared.value.Value.{Value, Int, Bool as Truth, Text, Tuple}
 use Rattle.pyd_value.specs.declared.value.Value.TheVariants as value
+use Rattle.pyd_value.specs.Size.{total}
 use Rattle.pyd_value.specs.declared.operator.BinOp.{BinOp}
 use Rattle.pyd_value.specs.declared.operator.Builtin.{Builtin as BuiltinFunction}
 use Rattle.pyd_value.specs.declared.operator.CmpOp.{CmpOp}
@@ -26,7 +27,7 @@ use Rattle.pyd_names.specs.Binding as binding
 use Rattle.pyd_names.specs.Resolution.{Resolution, resolved, constant_named, function_named, builtin_named}
 use Rattle.pyd_names.specs.Resolution as resolution
 use Rattle.pyd_names.specs.Uses as uses
-use Rattle.pyd_names.specs.WellFormed.{is_token_value, some_are, two_are, formed_targets, is_formed_expression, is_formed_suffix, is_formed_maybe, is_formed_what, is_formed_arm, is_formed_block, is_formed_statement, is_formed_otherwise}
+use Rattle.pyd_names.specs.WellFormed.{expression_parts, suffix_parts, maybe_parts, what_parts, arm_parts, block_parts, statement_parts, otherwise_parts, is_token_value, some_are, two_are, formed_targets, is_formed_expression, is_formed_suffix, is_formed_maybe, is_formed_what, is_formed_arm, is_formed_block, is_formed_statement, is_formed_otherwise}
 
 -- what is a literal, and its value
 pub record LiteralByKind : Type 0 where
@@ -136,6 +137,42 @@ pub record StatementsFormedByKind : Type 0 where
   pub block : (b : Block) → is_formed_block b ≡ some_are (out-Block b).stmts && list_all is_formed_statement (out-Block b).stmts
   pub statement : (s : Stmt) → is_formed_statement s ≡ is_formed_what s.what
   pub arm : (a : Arm) → is_formed_arm a ≡ is_formed_expression (out-Arm a).test && is_formed_block (out-Arm a).body
+
+-- the parts of each kind of expression, itself among them
+pub record PartsByKind : Type 0 where
+  pub literal : (v : Value) → expression_parts (expression.Lit v) ≡ 1
+  pub name : (n : List ℕ) → expression_parts (expression.Name n) ≡ 1
+  pub tuple : (es : List Expr) → expression_parts (expression.Tuple es) ≡ 1 + total (map expression_parts es)
+  pub unary : (op : UnOp) (e : Expr) → expression_parts (expression.Unary op e) ≡ 1 + expression_parts e
+  pub chain : (e : Expr) (ls : List (BinOp × Expr))
+      → expression_parts (expression.Chain e ls) ≡ 1 + (expression_parts e + total (map (λ l. expression_parts l.1) ls))
+  pub power : (b e : Expr) → expression_parts (expression.Power b e) ≡ 1 + (expression_parts b + expression_parts e)
+  pub and : (es : List Expr) → expression_parts (expression.And es) ≡ 1 + total (map expression_parts es)
+  pub or : (es : List Expr) → expression_parts (expression.Or es) ≡ 1 + total (map expression_parts es)
+  pub compare : (e : Expr) (ls : List (CmpOp × Expr))
+      → expression_parts (expression.Compare e ls) ≡ 1 + (expression_parts e + total (map (λ l. expression_parts l.1) ls))
+  pub choice : (c l r : Expr) → expression_parts (expression.If c l r) ≡ 1 + (expression_parts c + (expression_parts l + expression_parts r))
+  pub call : (n : List ℕ) (es : List Expr) → expression_parts (expression.Call n es) ≡ 1 + total (map expression_parts es)
+  pub suffixed : (e : Expr) (ss : List Suffix)
+      → expression_parts (expression.Suffixed e ss) ≡ 1 + (expression_parts e + total (map suffix_parts ss))
+  pub index : (e : Expr) → suffix_parts (suffix.Index e) ≡ 1 + expression_parts e
+  pub slice : (l u : Option Expr) → suffix_parts (suffix.Slice l u) ≡ 1 + (maybe_parts l + maybe_parts u)
+
+-- the parts of each kind of statement
+pub record StatementPartsByKind : Type 0 where
+  pub expression : (e : Expr) → what_parts (what.Expr e) ≡ expression_parts e
+  pub assignment : (to : Targets) (e : Expr) → what_parts (what.Assign to e) ≡ length to.names + expression_parts e
+  pub augmented : (n : List ℕ) (op : BinOp) (e : Expr) → what_parts (what.Aug n op e) ≡ 1 + expression_parts e
+  pub choice : (arms : List Arm) (otherwise : Option Block)
+      → what_parts (what.If arms otherwise) ≡ total (map arm_parts arms) + otherwise_parts otherwise
+  pub while : (test : Expr) (body : Block) → what_parts (what.While test body) ≡ expression_parts test + block_parts body
+  pub for : (to : Targets) (over : Expr) (body : Block)
+      → what_parts (what.For to over body) ≡ length to.names + (expression_parts over + block_parts body)
+  pub return : (e : Option Expr) → what_parts (what.Return e) ≡ maybe_parts e
+  pub assert : (test : Expr) (message : Option Expr) → what_parts (what.Assert test message) ≡ expression_parts test + maybe_parts message
+  pub block : (b : Block) → block_parts b ≡ total (map statement_parts (out-Block b).stmts)
+  pub statement : (s : Stmt) → statement_parts s ≡ 1 + what_parts s.what
+  pub arm : (a : Arm) → arm_parts a ≡ 1 + (expression_parts (out-Arm a).test + block_parts (out-Arm a).body)
 
 -- a constant of the file is bound once by the module's statements
 abbrev pub ConstantsAreBoundOnce : Type 0

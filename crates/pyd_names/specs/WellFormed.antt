@@ -47,6 +47,10 @@ count_suffix (Suffix-F.Slice lower upper) = 1 + (or_zero lower + or_zero upper)
 abbrev pub expression_parts : Expr → ℕ
 expression_parts = fold-Expr ℕ ℕ count_expression count_suffix
 
+-- expressions and suffixes in brackets, the brackets among them
+abbrev pub suffix_parts : Suffix → ℕ
+suffix_parts = fold-Suffix ℕ ℕ count_expression count_suffix
+
 -- those of an expression that may be missing
 abbrev pub maybe_parts : Option Expr → ℕ
 maybe_parts None = 0
@@ -85,6 +89,19 @@ block_parts = fold-Block ℕ ℕ ℕ ℕ count_what count_arm count_block count_
 -- the same in a statement
 abbrev pub statement_parts : Stmt → ℕ
 statement_parts = fold-Stmt ℕ ℕ ℕ ℕ count_what count_arm count_block count_statement
+
+-- the same in an arm
+abbrev pub arm_parts : Arm → ℕ
+arm_parts = fold-Arm ℕ ℕ ℕ ℕ count_what count_arm count_block count_statement
+
+-- the same in what a statement does
+abbrev pub what_parts : What → ℕ
+what_parts = fold-What ℕ ℕ ℕ ℕ count_what count_arm count_block count_statement
+
+-- the same in the suite of an `else`, if there is one
+abbrev pub otherwise_parts : Option Block → ℕ
+otherwise_parts None = 0
+otherwise_parts (Some block) = block_parts block
 
 -- an item and its parts
 abbrev pub item_parts : Item → ℕ

@@ -1,5 +1,5 @@
 //! The laws of the definitions, each the contract of a function that does nothing.
-ghost use Rattle.pyd_names.specs.Laws.{BindingsByKind, ConstantsAreBoundOnce, DistinctNames, FormedByKind, LiteralByKind, NamesResolveByRule, StatementUsesByKind, StatementsFormedByKind, UsesByKind};
+ghost use Rattle.pyd_names.specs.Laws.{BindingsByKind, ConstantsAreBoundOnce, DistinctNames, FormedByKind, LiteralByKind, NamesResolveByRule, PartsByKind, StatementPartsByKind, StatementUsesByKind, StatementsFormedByKind, UsesByKind};
 
 /// What is a literal, and its value.
 pub fn literals_go_by_kind()
@@ -36,4 +36,10 @@ pub fn names_resolve_by_rule()
 pub fn forms_go_by_kind()
     ensures expressions { FormedByKind }
     ensures statements { StatementsFormedByKind }
+{}
+
+/// The parts of each kind of expression and of statement.
+pub fn parts_go_by_kind()
+    ensures expressions { PartsByKind }
+    ensures statements { StatementPartsByKind }
 {}

@@ -45,6 +45,20 @@ pub fn module_statements(alloc: Global, file: &File) -> Result<Vec<&Stmt>, NoMem
     Ok(out)
 }
 
+/// For each item of a file whether it is a constant.
+pub fn constant_marks(alloc: Global, file: &File) -> Result<Vec<bool>, NoMemory>
+    ensures { IfOk result (λ marks. marks.items ≡ spec.constant_marks file.now) }
+{
+    let once = bound_once(alloc, file)?;
+    let mut early = true;
+    let mut marks = Vec::new(alloc);
+    for item in file.items.as_slice() {
+        marks.push(is_constant_item(&once, early, item))?;
+        early = early && constants_may_follow(item);
+    }
+    Ok(marks)
+}
+
 /// The functions in text order; the first is routine 1.
 pub fn functions(alloc: Global, file: &File) -> Result<Vec<&Func>, NoMemory>
     ensures { IfOk result (λ list. map (λ f. f.now) list.items ≡ spec.functions file.now) }
@@ -143,6 +157,16 @@ fn statement_of<'a>(once: &Once, early: bool, item: &'a Item) -> Option<&'a Stmt
     match item {
         Item::Stmt(stmt) if !(early && is_constant(once, stmt)) => Some(stmt),
         Item::Import(_, _, _) | Item::Def(_) | Item::Stmt(_) => None,
+    }
+}
+
+/// Whether an item is a constant.
+fn is_constant_item(once: &Once, early: bool, item: &Item) -> bool
+    ensures { result ≡ spec.is_constant (spec.line_of (has_once once.now) early item.now) }
+{
+    match item {
+        Item::Stmt(stmt) => early && is_constant(once, stmt),
+        Item::Import(_, _, _) | Item::Def(_) => false,
     }
 }
 

@@ -10,14 +10,14 @@ use std::collections::BTreeSet;
 
 /// The names that are bound, and those of them that are bound again.
 #[derive(Drop)]
-pub struct Once {
-    pub bound: BTreeSet<Text>,
-    pub again: BTreeSet<Text>,
+pub(crate) struct Once {
+    bound: BTreeSet<Text>,
+    again: BTreeSet<Text>,
 }
 
 impl Once {
     /// Tells of each name whether these bindings have it once.
-    pub fn of(alloc: Global, bindings: &[Binding]) -> Result<Once, NoMemory>
+    pub(crate) fn of(alloc: Global, bindings: &[Binding]) -> Result<Once, NoMemory>
         ensures { IfOk result (λ once. (name : Sequence ℕ) → has_once once name ≡ spec.is_once name (spec.names_of bindings.now)) }
     {
         let mut bound = BTreeSet::new(alloc);
@@ -33,7 +33,7 @@ impl Once {
     }
 
     /// Whether a name is bound once.
-    pub fn has(&self, name: &Text) -> bool
+    pub(crate) fn has(&self, name: &Text) -> bool
         ensures { result ≡ has_once self.now name.now }
     {
         self.bound.contains(name) && !self.again.contains(name)
