@@ -1,5 +1,5 @@
 -- Literals, the right sides that make a constant.
-use Rattle.std.specs.Prelude.{ℕ, pos, negsuc, ◌-ℤ◌, List, [], ◌∷◌, Option, Some, None}
+use Rattle.std.specs.Prelude.{ℕ, pos, negsuc, ◌-ℤ◌, List, [], ◌∷◌, map, Option, Some, None}
 use Rattle.pyd_value.specs.declared.value.Value.{Value, out-Value, Int, Tuple}
 use Rattle.pyd_value.specs.declared.value.Value.TheOpen.{Value-F}
 use Rattle.pyd_value.specs.declared.operator.UnOp.{UnOp}
@@ -88,3 +88,7 @@ form_of = fold-Expr Form Form form_step suffix_form
 -- the value of an expression that is a literal: INT, `-` before INT, STR, True, False, None, or a tuple of literals
 abbrev pub literal : Expr → Option Value
 literal e = value_in (form_of e)
+
+-- the tuple of expressions that are all literals
+abbrev pub literal_tuple : List Expr → Option Value
+literal_tuple es = tuple_of (values_in (map form_of es))

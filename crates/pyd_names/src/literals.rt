@@ -31,7 +31,7 @@ pub fn literal(alloc: Global, e: &Expr) -> Result<Option<Value>, NoMemory>
 /// The tuple of expressions that are all literals, or none.
 #[cycle(literals)]
 fn literals(alloc: Global, members: &[Expr]) -> Result<Option<Value>, NoMemory>
-    ensures { IfOk result (λ value. value ≡ spec.tuple_of (spec.values_in (map spec.form_of members.now))) }
+    ensures { IfOk result (λ value. value ≡ spec.literal_tuple members.now) }
 {
     let mut values = List::new(alloc);
     for member in members {

@@ -1,7 +1,7 @@
 //! The module's own lines: constants, module statements and functions.
-ghost use Rattle.std.specs.Prelude.{◌≡◌, ℕ, List as Sequence, [], ◌∷◌, ◌++◌, map, option_map, option_to_list, IfOk, OnOk};
+ghost use Rattle.std.specs.Prelude.{◌≡◌, [], ◌∷◌, ◌++◌, map, option_map, IfOk, OnOk};
 ghost use Rattle.pyd_names.specs.Binding as spec;
-ghost use Rattle.pyd_names.specs.Once.{has_once};
+ghost use Rattle.pyd_names.specs.Once.{Tells, assigns_once, constants_at, is_constant_at, statement_at};
 ghost use Rattle.pyd_names.specs.Uses as uses;
 
 use crate::binding::add_statement as add_bindings;
@@ -98,7 +98,7 @@ pub fn module_uses(alloc: Global, file: &File) -> Result<List<NameUse>, NoMemory
 
 /// Tells of each name whether the module's statements bind it once.
 fn bound_once(alloc: Global, file: &File) -> Result<Once, NoMemory>
-    ensures { IfOk result (λ once. (name : Sequence ℕ) → has_once once name ≡ spec.binds_once file.now name) }
+    ensures { IfOk result (λ once. Tells once (spec.binds_once file.now)) }
 {
     let mut bound = List::new(alloc);
     for item in file.items.as_slice() {
@@ -132,7 +132,7 @@ fn add_constant(
     item: &Item,
     out: &mut List<(Text, Value)>,
 ) -> Result<(), NoMemory>
-    ensures { OnOk result (out.new ≡ out.old ++ option_to_list (spec.constant_in (spec.line_of (has_once once.now) early item.now))) }
+    ensures { OnOk result (out.new ≡ out.old ++ constants_at once.now early item.now) }
 {
     let Item::Stmt(stmt) = item else {
         return Ok(());
@@ -152,7 +152,7 @@ fn add_constant(
 
 /// The module statement that an item is, or none.
 fn statement_of<'a>(once: &Once, early: bool, item: &'a Item) -> Option<&'a Stmt>
-    ensures { option_map (λ s. s.now) result ≡ spec.statement_in (spec.line_of (has_once once.now) early item.now) }
+    ensures { option_map (λ s. s.now) result ≡ statement_at once.now early item.now }
 {
     match item {
         Item::Stmt(stmt) if !(early && is_constant(once, stmt)) => Some(stmt),
@@ -162,7 +162,7 @@ fn statement_of<'a>(once: &Once, early: bool, item: &'a Item) -> Option<&'a Stmt
 
 /// Whether an item is a constant.
 fn is_constant_item(once: &Once, early: bool, item: &Item) -> bool
-    ensures { result ≡ spec.is_constant (spec.line_of (has_once once.now) early item.now) }
+    ensures { result ≡ is_constant_at once.now early item.now }
 {
     match item {
         Item::Stmt(stmt) => early && is_constant(once, stmt),
@@ -172,7 +172,7 @@ fn is_constant_item(once: &Once, early: bool, item: &Item) -> bool
 
 /// Whether a statement is a plain assignment of a literal to a name that is bound once.
 fn is_constant(once: &Once, stmt: &Stmt) -> bool
-    ensures { result ≡ spec.is_constant_literal (has_once once.now) (spec.literal_assignment stmt.now) }
+    ensures { result ≡ assigns_once once.now stmt.now }
 {
     match plain_assignment(stmt) {
         Some((name, right)) => is_literal(right) && once.has(name),

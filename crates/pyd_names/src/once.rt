@@ -1,7 +1,6 @@
 //! Which names are bound once.
-ghost use Rattle.std.specs.Prelude.{◌≡◌, ℕ, List as Sequence, IfOk};
-ghost use Rattle.pyd_names.specs.Binding as spec;
-ghost use Rattle.pyd_names.specs.Once.{has_once};
+ghost use Rattle.std.specs.Prelude.{◌≡◌, IfOk};
+ghost use Rattle.pyd_names.specs.Once.{has_once, have_once, Tells};
 
 use crate::Binding;
 use pyd_value::{NoMemory, Text};
@@ -18,7 +17,7 @@ pub(crate) struct Once {
 impl Once {
     /// Tells of each name whether these bindings have it once.
     pub(crate) fn of(alloc: Global, bindings: &[Binding]) -> Result<Once, NoMemory>
-        ensures { IfOk result (λ once. (name : Sequence ℕ) → has_once once name ≡ spec.is_once name (spec.names_of bindings.now)) }
+        ensures { IfOk result (λ once. Tells once (have_once bindings.now)) }
     {
         let mut bound = BTreeSet::new(alloc);
         let mut again = BTreeSet::new(alloc);

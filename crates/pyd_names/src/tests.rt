@@ -11,31 +11,20 @@ use std::alloc::{AllocError, Global};
 use std::test::Fail;
 
 // A name.
-fn name(alloc: Global, text: &str) -> Result<Expr, NoMemory> {
-    Ok(Expr::Name(Text::of(alloc, text)?))
+fn name(alloc: Global, text: &str) -> Result<Boxed<Expr>, NoMemory> {
+    Boxed::new(alloc, Expr::Name(Text::of(alloc, text)?))
 }
 
-// One expression in a list.
-fn one(alloc: Global, e: Expr) -> Result<List<Expr>, NoMemory> {
-    let mut list = List::new(alloc);
-    list.add(e)?;
-    Ok(list)
+// A number.
+fn number(alloc: Global, n: i128) -> Result<Boxed<Expr>, NoMemory> {
+    Boxed::new(alloc, Expr::Lit(Value::Int(n)))
 }
 
-// A call.
-fn call(alloc: Global, callee: &str, arguments: List<Expr>) -> Result<Expr, NoMemory> {
-    let callee = Text::of(alloc, callee)?;
-    Ok(Expr::Call(callee, arguments))
-}
-
-// `left + right`, of two names.
-fn plus(alloc: Global, left: &str, right: &str) -> Result<Expr, NoMemory> {
-    let left = name(alloc, left)?;
-    let left = Boxed::new(alloc, left)?;
-    let mut links = List::new(alloc);
-    let right = name(alloc, right)?;
-    links.add((BinOp::Add, right))?;
-    Ok(Expr::Chain(left, links))
+// A call with one argument.
+fn call(alloc: Global, callee: &str, argument: Boxed<Expr>) -> Result<Boxed<Expr>, NoMemory> {
+    let mut arguments = List::new(alloc);
+    arguments.add(argument.into_inner())?;
+    Boxed::new(alloc, Expr::Call(Text::of(alloc, callee)?, arguments))
 }
 
 // Names separated by commas.
@@ -48,123 +37,68 @@ fn texts(alloc: Global, all: &str) -> Result<List<Text>, NoMemory> {
     Ok(list)
 }
 
-// Targets, which are a tuple where there is a comma.
-fn targets(alloc: Global, all: &str) -> Result<Targets, NoMemory> {
-    let names = texts(alloc, all)?;
-    let tuple = names.len() > 1;
-    Ok(Targets { names, tuple })
+// One target.
+fn target(alloc: Global, text: &str) -> Result<Targets, NoMemory> {
+    let names = texts(alloc, text)?;
+    Ok(Targets {
+        names,
+        tuple: false,
+    })
 }
 
-fn add(body: &mut List<Stmt>, line: u32, what: What) -> Result<(), NoMemory> {
-    body.add(Stmt { line, what })
+// A plain assignment.
+fn assign(alloc: Global, line: u32, to: &str, right: Boxed<Expr>) -> Result<Stmt, NoMemory> {
+    let to = target(alloc, to)?;
+    let what = What::Assign(to, right.into_inner());
+    Ok(Stmt { line, what })
 }
 
-// 8:     for i in range(len(b)):
-// 9:         d, i = (i, 0)
-fn loop_over(alloc: Global) -> Result<What, NoMemory> {
-    let b = name(alloc, "b")?;
-    let arguments = one(alloc, b)?;
-    let len = call(alloc, "len", arguments)?;
-    let arguments = one(alloc, len)?;
-    let mut stmts = List::new(alloc);
-    let i = name(alloc, "i")?;
-    let mut pair = one(alloc, i)?;
-    pair.add(Expr::Lit(Value::Int(0)))?;
-    let to = targets(alloc, "d,i")?;
-    add(&mut stmts, 9, What::Assign(to, Expr::Tuple(pair)))?;
-    let to = targets(alloc, "i")?;
-    let over = call(alloc, "range", arguments)?;
-    Ok(What::For(to, over, Block { stmts }))
-}
-
-// 7:     c += a
-// 10:    return c + LEVEL
+// 7: c += a
+// 8: for d in range(len(b)):
+// 9:     c = d
 fn body(alloc: Global) -> Result<Block, NoMemory> {
-    let mut stmts = List::new(alloc);
-    let c = Text::of(alloc, "c")?;
+    let mut inner = List::new(alloc);
+    inner.add(assign(alloc, 9, "c", name(alloc, "d")?)?)?;
+    let over = call(alloc, "len", name(alloc, "b")?)?;
+    let over = call(alloc, "range", over)?;
+    let to = target(alloc, "d")?;
     let a = name(alloc, "a")?;
-    add(&mut stmts, 7, What::Aug(c, BinOp::Add, a))?;
-    let looped = loop_over(alloc)?;
-    add(&mut stmts, 8, looped)?;
-    let sum = plus(alloc, "c", "LEVEL")?;
-    add(&mut stmts, 10, What::Return(Some(sum)))?;
+    let c = Text::of(alloc, "c")?;
+    let mut stmts = List::new(alloc);
+    let what = What::Aug(c, BinOp::Add, a.into_inner());
+    stmts.add(Stmt { line: 7, what })?;
+    let what = What::For(to, over.into_inner(), Block { stmts: inner });
+    stmts.add(Stmt { line: 8, what })?;
     Ok(Block { stmts })
 }
 
 // 6: def f(a, b):
 fn function(alloc: Global) -> Result<Func, NoMemory> {
     let mut params = List::new(alloc);
-    let a = Text::of(alloc, "a")?;
-    params.add((6, a))?;
-    let b = Text::of(alloc, "b")?;
-    params.add((6, b))?;
+    params.add((6, Text::of(alloc, "a")?))?;
+    params.add((6, Text::of(alloc, "b")?))?;
     let name = Text::of(alloc, "f")?;
-    let body = body(alloc)?;
     Ok(Func {
         line: 6,
         name,
         marks: List::new(alloc),
         params,
-        body,
+        body: body(alloc)?,
     })
 }
 
-fn assign(
-    items: &mut List<Item>,
-    alloc: Global,
-    line: u32,
-    to: &str,
-    right: Expr,
-) -> Result<(), NoMemory> {
-    let right = Boxed::new(alloc, right)?;
-    let to = targets(alloc, to)?;
-    let what = What::Assign(to, right.into_inner());
-    items.add(Item::Stmt(Stmt { line, what }))
-}
-
-// 1: "doc"
-// 2: from pydron import schedule
-// 3: LEVEL = -3
-// 4: PAIR = (1, "a")
-fn head(alloc: Global, items: &mut List<Item>) -> Result<(), NoMemory> {
-    let doc = Text::of(alloc, "doc")?;
-    let what = What::Expr(Expr::Lit(Value::Text(doc)));
-    items.add(Item::Stmt(Stmt { line: 1, what }))?;
-    let module = Text::of(alloc, "pydron")?;
-    let names = texts(alloc, "schedule")?;
-    items.add(Item::Import(2, module, names))?;
-    let three = Boxed::new(alloc, Expr::Lit(Value::Int(3)))?;
-    assign(items, alloc, 3, "LEVEL", Expr::Unary(UnOp::Neg, three))?;
-    let mut pair = one(alloc, Expr::Lit(Value::Int(1)))?;
-    let a = Text::of(alloc, "a")?;
-    pair.add(Expr::Lit(Value::Text(a)))?;
-    assign(items, alloc, 4, "PAIR", Expr::Tuple(pair))
-}
-
-// 11: rows = 1
-// 12: rows += f(LEVEL)
-// 13: print(rows)
-// 14: late = 2
-fn tail(alloc: Global, items: &mut List<Item>) -> Result<(), NoMemory> {
-    assign(items, alloc, 11, "rows", Expr::Lit(Value::Int(1)))?;
-    let level = name(alloc, "LEVEL")?;
-    let arguments = one(alloc, level)?;
-    let rows = Text::of(alloc, "rows")?;
-    let what = What::Aug(rows, BinOp::Add, call(alloc, "f", arguments)?);
-    items.add(Item::Stmt(Stmt { line: 12, what }))?;
-    let rows = name(alloc, "rows")?;
-    let arguments = one(alloc, rows)?;
-    let what = What::Expr(call(alloc, "print", arguments)?);
-    items.add(Item::Stmt(Stmt { line: 13, what }))?;
-    assign(items, alloc, 14, "late", Expr::Lit(Value::Int(2)))
-}
-
+// 3:  LEVEL = -3
+// 6:  def f(a, b):
+// 11: rows = f(LEVEL)
+// 12: late = 2
 fn script(alloc: Global) -> Result<File, NoMemory> {
     let mut items = List::new(alloc);
-    head(alloc, &mut items)?;
-    let func = function(alloc)?;
-    items.add(Item::Def(func))?;
-    tail(alloc, &mut items)?;
+    let right = Boxed::new(alloc, Expr::Unary(UnOp::Neg, number(alloc, 3)?))?;
+    items.add(Item::Stmt(assign(alloc, 3, "LEVEL", right)?))?;
+    items.add(Item::Def(function(alloc)?))?;
+    let right = call(alloc, "f", name(alloc, "LEVEL")?)?;
+    items.add(Item::Stmt(assign(alloc, 11, "rows", right)?))?;
+    items.add(Item::Stmt(assign(alloc, 12, "late", number(alloc, 2)?)?))?;
     Ok(File { items })
 }
 
@@ -204,16 +138,17 @@ fn a_function_binds_and_uses(rt: HostRuntime) -> Result<(), Fail> {
     let func = function(alloc)?;
     let bound = bindings(alloc, &func.body)?;
     let text = bindings_text(alloc, bound.as_slice())?;
-    assert_eq!(rt; text.as_str(), "7 c; 8 i; 9 d; 9 i; ");
+    assert_eq!(rt; text.as_str(), "7 c; 8 d; 9 c; ");
     let local = function_locals(alloc, &func)?;
     let text = names_text(alloc, local.as_slice())?;
-    assert_eq!(rt; text.as_str(), "a b c i d ");
+    assert_eq!(rt; text.as_str(), "a b c d ");
     let used = uses(alloc, &func.body)?;
     let text = uses_text(alloc, used.as_slice())?;
-    assert_eq!(rt;
-        text.as_str(),
-        "7 c Read; 7 a Read; 8 range Iterated; 8 len Called; 8 b Read; 9 i Read; 10 c Read; 10 LEVEL Read; "
-    );
+    let expected = "7 c Read; 7 a Read; 8 range Iterated; 8 len Called; 8 b Read; 9 d Read; ";
+    assert_eq!(rt; text.as_str(), expected);
+    let looped = func.body.stmts.get(1).ok_or("no loop")?;
+    assert_eq!(rt; statement_bindings(alloc, looped)?.len(), 2);
+    assert_eq!(rt; statement_uses(alloc, looped)?.len(), 4);
     Ok(())
 }
 
@@ -223,16 +158,17 @@ fn a_module_binds_and_uses(rt: HostRuntime) -> Result<(), Fail> {
     let file = script(alloc)?;
     let bound = module_bindings(alloc, &file)?;
     let text = bindings_text(alloc, bound.as_slice())?;
-    assert_eq!(rt; text.as_str(), "11 rows; 12 rows; 14 late; ");
+    assert_eq!(rt; text.as_str(), "11 rows; 12 late; ");
     let variables = module_variables(alloc, &file)?;
     let text = names_text(alloc, variables.as_slice())?;
     assert_eq!(rt; text.as_str(), "rows late ");
     let used = module_uses(alloc, &file)?;
     let text = uses_text(alloc, used.as_slice())?;
-    assert_eq!(rt;
-        text.as_str(),
-        "12 rows Read; 12 f Called; 12 LEVEL Read; 13 print Called; 13 rows Read; "
-    );
+    assert_eq!(rt; text.as_str(), "11 f Called; 11 LEVEL Read; ");
+    let marks = constant_marks(alloc, &file)?;
+    assert_eq!(rt; marks.as_slice(), [true, false, false, false].as_slice());
+    assert_eq!(rt; module_statements(alloc, &file)?.len(), 2);
+    assert_eq!(rt; functions(alloc, &file)?.len(), 1);
     Ok(())
 }
 
@@ -241,54 +177,27 @@ fn a_module_has_constants(rt: HostRuntime) -> Result<(), Fail> {
     let alloc = rt.alloc();
     let file = script(alloc)?;
     let made = constants(alloc, &file)?;
-    assert_eq!(rt; made.len(), 3);
-    let main = made.get(0).ok_or("no first constant")?;
-    assert_eq!(rt; main.0.as_str(), "__name__");
-    assert!(rt; same(&main.1, &Value::Text(Text::of(alloc, "__main__")?)));
-    let level = made.get(1).ok_or("no second constant")?;
-    assert_eq!(rt; level.0.as_str(), "LEVEL");
-    assert!(rt; same(&level.1, &Value::Int(-3)));
-    let pair = made.get(2).ok_or("no third constant")?;
-    assert_eq!(rt; pair.0.as_str(), "PAIR");
-    let mut members = List::new(alloc);
-    members.add(Value::Int(1))?;
-    members.add(Value::Text(Text::of(alloc, "a")?))?;
-    assert!(rt; same(&pair.1, &Value::Tuple(members)));
+    assert_eq!(rt; made.len(), 2);
+    let first = made.get(0).ok_or("no first constant")?;
+    assert_eq!(rt; first.0.as_str(), "__name__");
+    let second = made.get(1).ok_or("no second constant")?;
+    assert_eq!(rt; second.0.as_str(), "LEVEL");
+    assert!(rt; same(&second.1, &Value::Int(-3)));
     Ok(())
 }
 
 #[test]
-fn a_module_has_lines(rt: HostRuntime) -> Result<(), Fail> {
+fn names_come_once(rt: HostRuntime) -> Result<(), Fail> {
     let alloc = rt.alloc();
-    let file = script(alloc)?;
-    let marks = constant_marks(alloc, &file)?;
-    assert_eq!(rt;
-        marks.as_slice(),
-        [false, false, true, true, false, false, false, false, false].as_slice()
-    );
-    assert_eq!(rt; module_statements(alloc, &file)?.len(), 5);
-    assert_eq!(rt; functions(alloc, &file)?.len(), 1);
-    Ok(())
-}
-
-#[test]
-fn a_statement_binds_and_uses(rt: HostRuntime) -> Result<(), Fail> {
-    let alloc = rt.alloc();
-    let what = loop_over(alloc)?;
-    let stmt = Stmt { line: 8, what };
-    let bound = statement_bindings(alloc, &stmt)?;
-    let text = bindings_text(alloc, bound.as_slice())?;
-    assert_eq!(rt; text.as_str(), "8 i; 9 d; 9 i; ");
-    let used = statement_uses(alloc, &stmt)?;
-    assert_eq!(rt; used.len(), 4);
     let names = texts(alloc, "a,b,a,c,b")?;
     let once = distinct(alloc, names.as_slice())?;
     let text = names_text(alloc, once.as_slice())?;
     assert_eq!(rt; text.as_str(), "a b c ");
-    let three = Expr::Lit(Value::Int(3));
-    let value = literal(alloc, &three)?.ok_or("no literal")?;
-    assert!(rt; same(&value, &Value::Int(3)));
-    let range = Text::of(alloc, "range")?;
-    assert_eq!(rt; builtin_named(&range), Some(Builtin::Range));
+    let three = number(alloc, 3)?;
+    assert!(rt; literal(alloc, three.get())?.is_some());
+    assert_eq!(rt;
+        builtin_named(&Text::of(alloc, "range")?),
+        Some(Builtin::Range)
+    );
     Ok(())
 }
