@@ -1,5 +1,5 @@
 -- What each kind of statement binds.
-use Rattle.std.proofs.Common.{◌≡◌, ℕ, List, [], ◌∷◌, ◌++◌, map, Option, Some, None, refl, ap, rules}
+use Rattle.std.proofs.Common.{◌≡◌, ℕ, List, [], ◌∷◌, ◌++◌, map, Option, Some, None, rules}
 use Rattle.std.specs.List.{flat_map}
 use Rattle.pyd_value.specs.declared.operator.BinOp.{BinOp}
 use Rattle.pyd_tree.specs.declared.expression.Expr.{Expr}
@@ -7,7 +7,7 @@ use Rattle.pyd_tree.specs.declared.statement.Targets.{Targets}
 use Rattle.pyd_tree.specs.declared.statement.Block.{Block, out-Block}
 use Rattle.pyd_tree.specs.declared.statement.Arm.{Arm, out-Arm}
 use Rattle.pyd_tree.specs.declared.statement.Stmt.{Stmt}
-use Rattle.pyd_tree.specs.declared.statement.What.{What, the_lemmas}
+use Rattle.pyd_tree.specs.declared.statement.What.{the_lemmas}
 use Rattle.pyd_tree.specs.declared.statement.What.TheVariants as what
 use Rattle.pyd_names.specs.Binding.{bindings, statement_bindings, arm_bindings, what_bindings, otherwise_bindings, bound_in}
 use Rattle.pyd_names.specs.Laws.{BindingsByKind}

@@ -1,21 +1,13 @@
 -- What it says of each kind of expression and statement to be well formed.
-use Rattle.std.proofs.Common.{◌≡◌, ℕ, Bool, true, false, ◌&&◌, List, [], ◌∷◌, map, Option, Some, None, refl, ap, ◌∙◌, rules}
+use Rattle.std.proofs.Common.{◌≡◌, Bool, ◌&&◌, List, [], ◌∷◌, map, Option, Some, None, refl, ap, rules}
 use Rattle.std.specs.List.{list_all}
-use Rattle.pyd_value.specs.declared.value.Value.{Value}
-use Rattle.pyd_value.specs.declared.operator.BinOp.{BinOp}
-use Rattle.pyd_value.specs.declared.operator.CmpOp.{CmpOp}
-use Rattle.pyd_value.specs.declared.operator.UnOp.{UnOp}
 use Rattle.pyd_tree.specs.declared.expression.Expr.{Expr, the_lemmas}
-use Rattle.pyd_tree.specs.declared.expression.Expr.TheVariants as expression
-use Rattle.pyd_tree.specs.declared.expression.Suffix.{Suffix}
 use Rattle.pyd_tree.specs.declared.expression.Suffix.TheVariants as suffix
-use Rattle.pyd_tree.specs.declared.statement.Targets.{Targets}
-use Rattle.pyd_tree.specs.declared.statement.Block.{Block, out-Block}
-use Rattle.pyd_tree.specs.declared.statement.Arm.{Arm, out-Arm}
-use Rattle.pyd_tree.specs.declared.statement.Stmt.{Stmt}
-use Rattle.pyd_tree.specs.declared.statement.What.{What, the_lemmas as what_lemmas}
+use Rattle.pyd_tree.specs.declared.statement.Block.{Block}
+use Rattle.pyd_tree.specs.declared.statement.Arm.{Arm}
+use Rattle.pyd_tree.specs.declared.statement.What.{the_lemmas as what_lemmas}
 use Rattle.pyd_tree.specs.declared.statement.What.TheVariants as what
-use Rattle.pyd_names.specs.WellFormed.{is_token_value, some_are, two_are, formed_targets, is_formed_expression, is_formed_suffix, is_formed_maybe, is_formed_what, is_formed_arm, is_formed_block, is_formed_statement, is_formed_otherwise}
+use Rattle.pyd_names.specs.WellFormed.{some_are, two_are, is_formed_suffix, is_formed_maybe, is_formed_what, is_formed_arm, is_formed_otherwise}
 use Rattle.pyd_names.specs.Laws.{FormedByKind, StatementsFormedByKind}
 
 list_all-map : {X Y : Type 0} → (g : X → Y) (p : Y → Bool) (xs : List X) → list_all p (map g xs) ≡ list_all (λ x. p (g x)) xs

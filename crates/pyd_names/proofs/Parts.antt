@@ -1,21 +1,13 @@
 -- How many parts each kind of expression and statement has.
-use Rattle.std.proofs.Common.{◌≡◌, ℕ, ◌+◌, length, List, [], ◌∷◌, map, Option, Some, None, refl, ap, ◌∙◌, rules}
+use Rattle.std.proofs.Common.{◌≡◌, ◌+◌, List, [], ◌∷◌, map, Option, Some, None, refl, ap, rules}
 use Rattle.pyd_value.specs.Size.{total}
-use Rattle.pyd_value.specs.declared.value.Value.{Value}
-use Rattle.pyd_value.specs.declared.operator.BinOp.{BinOp}
-use Rattle.pyd_value.specs.declared.operator.CmpOp.{CmpOp}
-use Rattle.pyd_value.specs.declared.operator.UnOp.{UnOp}
 use Rattle.pyd_tree.specs.declared.expression.Expr.{Expr, the_lemmas}
-use Rattle.pyd_tree.specs.declared.expression.Expr.TheVariants as expression
-use Rattle.pyd_tree.specs.declared.expression.Suffix.{Suffix}
 use Rattle.pyd_tree.specs.declared.expression.Suffix.TheVariants as suffix
-use Rattle.pyd_tree.specs.declared.statement.Targets.{Targets}
-use Rattle.pyd_tree.specs.declared.statement.Block.{Block, out-Block}
-use Rattle.pyd_tree.specs.declared.statement.Arm.{Arm, out-Arm}
-use Rattle.pyd_tree.specs.declared.statement.Stmt.{Stmt}
-use Rattle.pyd_tree.specs.declared.statement.What.{What, the_lemmas as what_lemmas}
+use Rattle.pyd_tree.specs.declared.statement.Block.{Block}
+use Rattle.pyd_tree.specs.declared.statement.Arm.{Arm}
+use Rattle.pyd_tree.specs.declared.statement.What.{the_lemmas as what_lemmas}
 use Rattle.pyd_tree.specs.declared.statement.What.TheVariants as what
-use Rattle.pyd_names.specs.WellFormed.{expression_parts, suffix_parts, maybe_parts, what_parts, arm_parts, block_parts, statement_parts, otherwise_parts}
+use Rattle.pyd_names.specs.WellFormed.{suffix_parts, maybe_parts, what_parts, arm_parts, otherwise_parts}
 use Rattle.pyd_names.specs.Laws.{PartsByKind, StatementPartsByKind}
 
 map-map : {X Y Z : Type 0} → (g : X → Y) (f : Y → Z) (xs : List X) → map f (map g xs) ≡ map (λ x. f (g x)) xs

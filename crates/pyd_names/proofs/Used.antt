@@ -1,5 +1,5 @@
 -- What each kind of expression and of statement uses.
-use Rattle.std.proofs.Common.{◌≡◌, ℕ, List, [], ◌∷◌, ◌++◌, map, Option, Some, None, ◌⊎◌, inl, inr, refl, ap, ◌∙◌, rules}
+use Rattle.std.proofs.Common.{◌≡◌, ℕ, List, [], ◌∷◌, ◌++◌, Option, Some, None, ◌⊎◌, inl, inr, ap, ◌∙◌, rules}
 use Rattle.std.specs.List.{flat_map}
 use Rattle.pyd_value.specs.declared.operator.BinOp.{BinOp}
 use Rattle.pyd_value.specs.declared.operator.CmpOp.{CmpOp}
@@ -13,7 +13,7 @@ use Rattle.pyd_tree.specs.declared.statement.Targets.{Targets}
 use Rattle.pyd_tree.specs.declared.statement.Block.{Block, out-Block}
 use Rattle.pyd_tree.specs.declared.statement.Arm.{Arm, out-Arm}
 use Rattle.pyd_tree.specs.declared.statement.Stmt.{Stmt}
-use Rattle.pyd_tree.specs.declared.statement.What.{What, the_lemmas as what_lemmas}
+use Rattle.pyd_tree.specs.declared.statement.What.{the_lemmas as what_lemmas}
 use Rattle.pyd_tree.specs.declared.statement.What.TheVariants as what
 use Rattle.pyd_names.specs.declared.name_use.Manner.{Manner}
 use Rattle.pyd_names.specs.declared.name_use.Manner.TheVariants.{Read, Called}

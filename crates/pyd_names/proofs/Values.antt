@@ -1,5 +1,5 @@
 -- Values of literals, one behind another.
-use Rattle.std.proofs.Common.{◌≡◌, ℕ, pos, negsuc, sym, ap, ◌∙◌, ◌-ℤ◌, map, rules, ◌&&◌, List, [], ◌∷◌, ◌++◌, Option, Some, None, is_some, refl}
+use Rattle.std.proofs.Common.{◌≡◌, ℕ, pos, negsuc, sym, ap, ◌∙◌, ◌-ℤ◌, map, rules, ◌&&◌, List, ◌++◌, Option, Some, None, is_some, refl}
 use Rattle.pyd_names.specs.Literal.{before, literal, value_in, negated, token_form, form_of, values_in, tuple_of}
 use Rattle.pyd_names.specs.Laws.{LiteralByKind}
 use Rattle.pyd_value.specs.declared.value.Value.{Value, Int, out-Value, the_lemmas as value_lemmas}

@@ -6,7 +6,6 @@ use Rattle.pyd_value.specs.declared.value.Value.{Value, out-Value, Text}
 use Rattle.pyd_value.specs.declared.value.Value.TheOpen.{Value-F}
 use Rattle.pyd_tree.specs.declared.expression.Expr.{Expr, out-Expr}
 use Rattle.pyd_tree.specs.declared.expression.Expr.TheOpen.{Expr-F}
-use Rattle.pyd_tree.specs.declared.statement.Targets.{Targets}
 use Rattle.pyd_tree.specs.declared.statement.Block.{Block, fold-Block}
 use Rattle.pyd_tree.specs.declared.statement.Stmt.{Stmt, fold-Stmt}
 use Rattle.pyd_tree.specs.declared.statement.Arm.{Arm, fold-Arm}

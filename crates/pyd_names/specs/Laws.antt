@@ -1,8 +1,7 @@
 -- What the definitions say of each construct, and the rules by which a name is resolved, to be read aloud.
-use Rattle.std.specs.Prelude.{◌≡◌, ◌≤◌, ℕ, ◌+◌, length, pos, ◌-ℤ◌, List, [], ◌∷◌, ◌++◌, map, count_by, Bool, true, false, ◌&&◌, Option, Some, None, All}
+use Rattle.std.specs.Prelude.{◌≡◌, ◌≤◌, ℕ, ◌+◌, length, pos, ◌-ℤ◌, List, [], ◌∷◌, ◌++◌, map, count_by, true, false, ◌&&◌, Option, Some, None, All}
 use Rattle.std.specs.List.{filter_map, flat_map, list_all}
-use Rattle.pyd_value.specs.declared.value.Value.{Value, Int, Bool as Truth, Text, Tuple}
-use Rattle.pyd_value.specs.declared.value.Value.TheVariants as value
+use Rattle.pyd_value.specs.declared.value.Value.{Value, Int}
 use Rattle.pyd_value.specs.Size.{total}
 use Rattle.pyd_value.specs.declared.operator.BinOp.{BinOp}
 use Rattle.pyd_value.specs.declared.operator.Builtin.{Builtin as BuiltinFunction}
@@ -17,11 +16,10 @@ use Rattle.pyd_tree.specs.declared.statement.Targets.{Targets}
 use Rattle.pyd_tree.specs.declared.statement.Block.{Block, out-Block}
 use Rattle.pyd_tree.specs.declared.statement.Arm.{Arm, out-Arm}
 use Rattle.pyd_tree.specs.declared.statement.Stmt.{Stmt}
-use Rattle.pyd_tree.specs.declared.statement.What.{What}
 use Rattle.pyd_tree.specs.declared.statement.What.TheVariants as what
 use Rattle.pyd_tree.specs.declared.file.File.{File}
 use Rattle.pyd_names.specs.declared.name_use.Manner.{Manner}
-use Rattle.pyd_names.specs.declared.name_use.Manner.TheVariants.{Read, Called, Iterated}
+use Rattle.pyd_names.specs.declared.name_use.Manner.TheVariants.{Read, Iterated}
 use Rattle.pyd_names.specs.Literal.{literal, value_in, negated, form_of, values_in, tuple_of}
 use Rattle.pyd_names.specs.Binding as binding
 use Rattle.pyd_names.specs.Resolution.{Resolution, resolved, constant_named, function_named, builtin_named}

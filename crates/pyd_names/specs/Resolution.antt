@@ -1,5 +1,5 @@
 -- What a name stands for in a routine.
-use Rattle.std.specs.Prelude.{ℕ, suc, List, [], ◌∷◌, map, codes, Bool, true, false, if◌then◌else◌, Option, Some, None}
+use Rattle.std.specs.Prelude.{ℕ, List, [], ◌∷◌, map, codes, Bool, true, false, if◌then◌else◌, Option, Some, None}
 use Rattle.std.specs.List.{position_from}
 use Rattle.std.specs.Map.{lookup}
 use Rattle.pyd_value.specs.declared.value.Value.{Value}

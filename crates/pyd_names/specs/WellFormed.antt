@@ -8,7 +8,6 @@ use Rattle.pyd_value.specs.Limits.{largest_size}
 use Rattle.pyd_tree.specs.declared.expression.Expr.{Expr, fold-Expr}
 use Rattle.pyd_tree.specs.declared.expression.Expr.TheOpen.{Expr-F, Suffix-F}
 use Rattle.pyd_tree.specs.declared.expression.Suffix.{Suffix, fold-Suffix}
-use Rattle.pyd_tree.specs.declared.statement.Targets.{Targets}
 use Rattle.pyd_tree.specs.declared.statement.Block.{Block, fold-Block}
 use Rattle.pyd_tree.specs.declared.statement.Stmt.{Stmt, fold-Stmt}
 use Rattle.pyd_tree.specs.declared.statement.Arm.{Arm, fold-Arm}

@@ -1,10 +1,10 @@
-use Rattle.std.proofs.Common.{◌≡◌, ℕ, List, [], ◌∷◌, ◌++◌, ◌⊎◌, inl, inr, Bool, true, false, not, cond, ◌||◌, drop, refl, sym, ◌∙◌, ap}
+use Rattle.std.proofs.Common.{ℕ, List, [], ◌∷◌, ◌++◌, inl, inr, Bool, not, sym, ◌∙◌, ap}
 use Rattle.std.specs.List.{filter, list_any}
 use Rattle.std.specs.BTreeSet.{contains}
 use Rattle.std.specs.BTreeMap.{is_at}
 use Rattle.std.specs.Cmp.Lexicographic.{slice_cmp}
 use Rattle.std.specs.Ordering.{nat_cmp}
-use Rattle.pyd_names.specs.Binding.{distinct, same_name}
+use Rattle.pyd_names.specs.Binding.{distinct}
 use Rattle.pyd_names.proofs.Names.{added_here, not_true, not_false}
 use Rattle.pyd_names.proofs.Turns.{turn_by_test, nothing_seen}
 use Rattle.pyd_names.proofs.locals.distinct.Goals as goal

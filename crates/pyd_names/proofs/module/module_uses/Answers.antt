@@ -1,6 +1,5 @@
 use Rattle.std.proofs.Common.{sym, ap, ◌∙◌}
 use Rattle.std.specs.List.{flat_map}
-use Rattle.pyd_tree.specs.declared.statement.Stmt.{Stmt}
 use Rattle.pyd_names.specs.Uses.{statement_uses}
 use Rattle.pyd_names.proofs.Lists.{all_walked, flat_map-map}
 use Rattle.pyd_names.proofs.module.module_uses.Goals as goal

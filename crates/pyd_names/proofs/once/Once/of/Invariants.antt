@@ -1,5 +1,5 @@
 -- A name is in the first set where the bindings so far have it, and in the second where they have it twice or more.
-use Rattle.std.proofs.Common.{◌≡◌, ℕ, List, map, take, count_by, nat_le}
+use Rattle.std.proofs.Common.{◌≡◌, ℕ, List, take, count_by, nat_le}
 use Rattle.std.specs.BTreeSet.{contains}
 use Rattle.std.specs.Cmp.Lexicographic.{slice_cmp}
 use Rattle.std.specs.Ordering.{nat_cmp}
