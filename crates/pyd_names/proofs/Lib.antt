@@ -1,0 +1,11 @@
+pub mod Lists
+pub mod Bound
+pub mod Used
+pub mod Values
+pub mod Names
+pub mod Turns
+pub mod Counting
+pub mod Plain
+pub mod Singles
+pub mod Formed
+pub mod Parts
