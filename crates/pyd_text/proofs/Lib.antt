@@ -1,0 +1,11 @@
+pub mod Joining
+pub mod Plain
+pub mod Counting
+pub mod Appending
+pub mod Reprs
+pub mod Quotes
+pub mod Digits
+pub mod Escapes
+pub mod Reading
+pub mod Built
+pub mod Keeps

@@ -1,0 +1,4 @@
+use Rattle.pyd_text.proofs.quoting.+write_hex.Given as goal
+
+abbrev pub decreases-write_hex : goal.decreases-write_hex
+decreases-write_hex l = l.digits
