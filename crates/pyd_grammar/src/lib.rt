@@ -1,0 +1,10 @@
+//! The file that the tokens of a source are read as, or their first fault.
+#![tactic(auto)]
+
+mod fault;
+mod laws;
+mod parse;
+
+pub use fault::{ParseFault, ParseStop};
+pub use laws::{an_answer, files_are_well_formed, one_answer};
+pub use parse::parse;
