@@ -3,8 +3,8 @@
 
 mod fault;
 mod laws;
-mod parse;
+mod parser;
 
 pub use fault::{ParseFault, ParseStop};
 pub use laws::{an_answer, files_are_well_formed, one_answer};
-pub use parse::parse;
+pub use parser::parse;
