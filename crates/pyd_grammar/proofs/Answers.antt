@@ -1,14 +1,14 @@
 -- Tokens have one answer, and those of a source have one.
-use Rattle.std.proofs.Common.{◌≡◌, ℕ, ◌*◌, ◌^◌, ◌<◌, ◌≤◌, ◌⊎◌, ⊎_elim, List, [], ◌∷◌, ◌++◌, length, map, drop, Option, Some, None, Result, Ok, Err, IfOk, refl, sym, ap, subst, ◌∙◌, arith}
+use Rattle.std.proofs.Common.{◌≡◌, ℕ, ◌≤◌, ⊎_elim, List, [], ◌∷◌, ◌++◌, length, drop, Option, Some, None, Result, Ok, Err, IfOk, refl, sym, ap, ◌∙◌, arith}
 use Rattle.std.proofs.lemmas.List.{map-append}
 use Rattle.pyd_lex.specs.declared.token.Token.{Token}
 use Rattle.pyd_lex.specs.Reads.{Reads}
-use Rattle.pyd_lex.specs.TokenBytes.{TokenBytes, AreEnded}
+use Rattle.pyd_lex.specs.TokenBytes.{TokenBytes}
 use Rattle.pyd_syntax.specs.declared.symbol.Symbol.TheVariants.{Rule}
 use Rattle.pyd_syntax.specs.declared.terminal.TheConstants.{END}
 use Rattle.pyd_syntax.specs.Rules.{file}
 use Rattle.pyd_syntax.specs.Terminals.{terminal, terminals}
-use Rattle.pyd_syntax.specs.Script.{IsScript, IsFirstHopeless, EndsAtEnd}
+use Rattle.pyd_syntax.specs.Script.{IsScript, EndsAtEnd}
 use Rattle.pyd_syntax.specs.Laws.{OneFirstHopeless, AnAnswer as ScriptAnswer}
 use Rattle.pyd_tree.specs.declared.file.File.{File}
 use Rattle.pyd_derivation.specs.Forms.{apply, does}
@@ -19,13 +19,12 @@ use Rattle.pyd_derivation.specs.Laws.{OneFile, FilesAreScripts}
 use Rattle.pyd_measure.specs.Lines.{IsDeepLine, IsTargetLine}
 use Rattle.pyd_measure.specs.Laws.{OneLine, ALine}
 use Rattle.pyd_names.specs.WellFormed.{IsWellFormed}
-use Rattle.pyd_grammar.specs.declared.fault.ParseFault.{ParseFault}
 use Rattle.pyd_grammar.specs.declared.fault.ParseFault.TheVariants.{Syntax, Deep, Target}
 use Rattle.pyd_grammar.specs.Limits.{longest_source}
 use Rattle.pyd_grammar.specs.Parses.{Parses, IsHopelessLine}
-use Rattle.pyd_grammar.specs.Laws.{Answer, OneAnswer, AnAnswer, FilesAreWellFormed}
+use Rattle.pyd_grammar.specs.Laws.{Answer, OneAnswer, AnAnswer, FaultsByCause, FilesAreWellFormed}
 use Rattle.pyd_grammar.proofs.Texts.{texts_fit}
-use Rattle.pyd_grammar.proofs.Weights.{weight, weight_tokens}
+use Rattle.pyd_grammar.proofs.Weights.{weight_tokens}
 use Rattle.pyd_grammar.proofs.FormedFiles.{files_formed}
 
 -- a derivation is read as a file
@@ -37,14 +36,25 @@ derived_file bytes ts (Production_then p cs (Production_then q es ds)) d l = abs
 derived_file bytes ts End d l = absurd d
 derived_file bytes ts (Token_then t ds) d l = absurd d
 
+-- tokens with a line have a derivation
+deep_script : FilesAreScripts → (ts : List Token) (line : Option ℕ) → IsDeepLine ts line → IsScript ts
+deep_script scripts ts line h = let r = derived_file [] ts h.0 h.1 h.2 in scripts.script [] ts r.0 r.1
+
+-- a hopeless token is in a line of no script
+no_script : OneFirstHopeless → (ts : List Token) (line : ℕ) → IsHopelessLine ts line → IsScript ts → ⊥
+no_script hopeless ts line h s = hopeless.script ts h.0 h.1 s
+
+pub faults_by_cause : OneFirstHopeless → ScriptAnswer → FilesAreScripts → FaultsByCause
+faults_by_cause hopeless script_answer scripts =
+    record {
+      syntax = λ bytes ts e n. ⊎_elim (λ s. absurd (n s)) (λ h. (line_of (drop h.0 ts), (h.0, h.1, refl))) (script_answer ts e);
+      none = λ bytes ts line h s. no_script hopeless ts line h s;
+      deep = λ bytes ts line h. deep_script scripts ts (Some line) h;
+      target = λ bytes ts line h. deep_script scripts ts None h.0;
+      file = λ bytes ts f h. scripts.script bytes ts f h.0;
+    }
+
 module _ (hopeless : OneFirstHopeless) (one_file : OneFile) (scripts : FilesAreScripts) (one_line : OneLine) where
-  deep_script : (ts : List Token) (line : Option ℕ) → IsDeepLine ts line → IsScript ts
-  deep_script ts line h = let r = derived_file [] ts h.0 h.1 h.2 in scripts.script [] ts r.0 r.1
-
-  -- a hopeless token is in a line of no script
-  no_script : (ts : List Token) (line : ℕ) → IsHopelessLine ts line → IsScript ts → ⊥
-  no_script ts line h s = hopeless.script ts h.0 h.1 s
-
   one_hopeless : (ts : List Token) (k l : ℕ) → IsHopelessLine ts k → IsHopelessLine ts l → k ≡ l
   one_hopeless ts k l g h = g.2 ∙ ap (λ (i : ℕ). line_of (drop i ts)) (hopeless.place ts g.0 h.0 g.1 h.1) ∙ sym h.2
 
@@ -59,19 +69,19 @@ module _ (hopeless : OneFirstHopeless) (one_file : OneFile) (scripts : FilesAreS
 
   pub one_answer : OneAnswer
   one_answer bytes ts (Ok f) (Ok g) a b = ap Ok (one_file bytes ts f g a.0 b.0)
-  one_answer bytes ts (Ok f) (Err (Syntax l)) a b = absurd (no_script ts l b (scripts.script bytes ts f a.0))
+  one_answer bytes ts (Ok f) (Err (Syntax l)) a b = absurd (no_script hopeless ts l b (scripts.script bytes ts f a.0))
   one_answer bytes ts (Ok f) (Err (Deep l)) a b = absurd (two_deep ts l a.1 b)
   one_answer bytes ts (Ok f) (Err (Target l)) a b = absurd (two_target ts l a.2 b.1)
-  one_answer bytes ts (Err (Syntax k)) (Ok g) a b = absurd (no_script ts k a (scripts.script bytes ts g b.0))
+  one_answer bytes ts (Err (Syntax k)) (Ok g) a b = absurd (no_script hopeless ts k a (scripts.script bytes ts g b.0))
   one_answer bytes ts (Err (Syntax k)) (Err (Syntax l)) a b = ap (λ (z : ℕ). Err (Syntax z)) (one_hopeless ts k l a b)
-  one_answer bytes ts (Err (Syntax k)) (Err (Deep l)) a b = absurd (no_script ts k a (deep_script ts (Some l) b))
-  one_answer bytes ts (Err (Syntax k)) (Err (Target l)) a b = absurd (no_script ts k a (deep_script ts None b.0))
+  one_answer bytes ts (Err (Syntax k)) (Err (Deep l)) a b = absurd (no_script hopeless ts k a (deep_script scripts ts (Some l) b))
+  one_answer bytes ts (Err (Syntax k)) (Err (Target l)) a b = absurd (no_script hopeless ts k a (deep_script scripts ts None b.0))
   one_answer bytes ts (Err (Deep k)) (Ok g) a b = absurd (two_deep ts k b.1 a)
-  one_answer bytes ts (Err (Deep k)) (Err (Syntax l)) a b = absurd (no_script ts l b (deep_script ts (Some k) a))
+  one_answer bytes ts (Err (Deep k)) (Err (Syntax l)) a b = absurd (no_script hopeless ts l b (deep_script scripts ts (Some k) a))
   one_answer bytes ts (Err (Deep k)) (Err (Deep l)) a b = ap (λ (z : ℕ). Err (Deep z)) (same_some k l (one_line.deep ts (Some k) (Some l) a b))
   one_answer bytes ts (Err (Deep k)) (Err (Target l)) a b = absurd (two_deep ts k b.0 a)
   one_answer bytes ts (Err (Target k)) (Ok g) a b = absurd (two_target ts k b.2 a.1)
-  one_answer bytes ts (Err (Target k)) (Err (Syntax l)) a b = absurd (no_script ts l b (deep_script ts None a.0))
+  one_answer bytes ts (Err (Target k)) (Err (Syntax l)) a b = absurd (no_script hopeless ts l b (deep_script scripts ts None a.0))
   one_answer bytes ts (Err (Target k)) (Err (Deep l)) a b = absurd (two_deep ts l a.0 b)
   one_answer bytes ts (Err (Target k)) (Err (Target l)) a b = ap (λ (z : ℕ). Err (Target z)) (same_some k l (one_line.target ts (Some k) (Some l) a.1 b.1))
 

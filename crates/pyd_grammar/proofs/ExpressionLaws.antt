@@ -1,20 +1,18 @@
 -- What the productions of expressions make is well formed and has few parts.
-use Rattle.std.proofs.Common.{◌≡◌, ℕ, ◌+◌, ◌≤◌, List, [], ◌∷◌, Option, Some, None, Bool, true, false, refl, sym, subst, zero-add, arith}
+use Rattle.std.proofs.Common.{◌≡◌, ℕ, ◌+◌, List, [], ◌∷◌, Some, None, true, false, refl, sym, subst, zero-add, arith}
 use Rattle.pyd_lex.specs.declared.token.TokenKind.{TokenKind}
 use Rattle.pyd_lex.specs.declared.token.TokenKind.TheVariants as token
-use Rattle.pyd_lex.specs.declared.word.Word.{Word}
 use Rattle.pyd_lex.specs.declared.word.Word.TheVariants as word
 use Rattle.pyd_value.specs.declared.operator.UnOp.TheVariants as un
 use Rattle.pyd_value.specs.declared.operator.CmpOp.TheVariants as cmp
 use Rattle.pyd_value.specs.declared.value.Value.TheVariants as value
-use Rattle.pyd_tree.specs.declared.expression.Expr.{Expr}
 use Rattle.pyd_derivation.specs.declared.piece.Piece.{Piece}
 use Rattle.pyd_derivation.specs.declared.piece.Piece.TheVariants as piece
 use Rattle.pyd_derivation.specs.Operators.{operator, sign, comparison}
 use Rattle.pyd_derivation.specs.Pieces.{kind_of, name_in, text_in, token_of, tuple_of}
 use Rattle.pyd_derivation.specs.Actions.{as_and, as_arguments, as_bound, as_chain, as_comma, as_compare, as_compared, as_condition, as_constant, as_group, as_int, as_link, as_member, as_name, as_not, as_not_in, as_or, as_power, as_sub, as_suffix, as_suffixed, as_test, as_tests, as_text, as_unary, as_upper, same, second, number, constant}
 use Rattle.pyd_names.specs.WellFormed.{is_token_value}
-use Rattle.pyd_grammar.proofs.FormedExpressions.{Formed, FormedAll, formed_more, all_more, all_none, all_one, all_cons, literal, name, tuple, unary, chain, compare, power, and, or, choice, call, suffixed, index, maybe_some, slice_none, slice_some, links_one, links_cons, compares_one, compares_cons, suffixes_one, suffixes_cons, int_fits, bool_fits, none_fits}
+use Rattle.pyd_grammar.proofs.FormedExpressions.{Formed, formed_more, all_more, all_none, all_one, all_cons, literal, name, tuple, unary, chain, compare, power, and, or, choice, call, suffixed, index, maybe_some, slice_none, slice_some, links_one, links_cons, compares_one, compares_cons, suffixes_one, suffixes_cons, int_fits, bool_fits, none_fits}
 use Rattle.pyd_grammar.proofs.Shapes.{Kind, Meets, Test, Tests, Options, More, Condition, Members, Compared, Linked, Maybe, Suffixes, Sub, Bound, Arguments}
 
 -- a part alone

@@ -1,5 +1,5 @@
 -- What is known of each kind of expression, statement and item: its parts, and whether it is well formed.
-use Rattle.std.proofs.Common.{◌≡◌, ℕ, ◌+◌, List, [], ◌∷◌, map, Option, Some, None, Bool, true, false, ◌&&◌, refl, ap, sym, ◌∙◌, rules}
+use Rattle.std.proofs.Common.{◌≡◌, ℕ, ◌+◌, List, [], ◌∷◌, map, Option, Bool, true, ◌&&◌, refl, ap, rules}
 use Rattle.std.specs.Prelude.{option_map}
 use Rattle.pyd_value.specs.Size.{total}
 use Rattle.pyd_value.specs.declared.value.Value.{Value}
@@ -10,7 +10,7 @@ use Rattle.pyd_tree.specs.declared.expression.Expr.{Expr, the_lemmas}
 use Rattle.pyd_tree.specs.declared.expression.Expr.TheVariants as expr
 use Rattle.pyd_tree.specs.declared.expression.Suffix.{Suffix, fold-Suffix}
 use Rattle.pyd_tree.specs.declared.expression.Suffix.TheVariants as suffix
-use Rattle.pyd_names.specs.WellFormed.{expression_parts, count_expression, count_suffix, or_zero, is_formed_expression, form_expression, form_suffix, all_hold, some_are, two_are, or_true, is_token_value}
+use Rattle.pyd_names.specs.WellFormed.{expression_parts, count_expression, count_suffix, or_zero, is_formed_expression, form_expression, form_suffix, all_hold, or_true, is_token_value}
 
 -- the parts of a suffix
 abbrev pub suffix_parts : Suffix → ℕ

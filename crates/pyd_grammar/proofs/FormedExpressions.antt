@@ -1,9 +1,7 @@
 -- Expressions that are well formed and have few parts, and what is made of them.
-use Rattle.std.proofs.Common.{◌≡◌, ℕ, ◌+◌, ◌≤◌, ℤ, List, [], ◌∷◌, map, length, encode_utf8_all, Option, Some, None, Bool, true, false, ◌&&◌, refl, ap, sym, ◌∙◌, arith, rules}
-use Rattle.std.specs.Prelude.{option_map}
+use Rattle.std.proofs.Common.{◌≡◌, ℕ, ◌+◌, ◌≤◌, ℤ, List, [], ◌∷◌, map, Option, Some, None, Bool, true, refl, ◌∙◌, arith, rules}
 use Rattle.std.proofs.lemmas.Bool.{and_from}
-use Rattle.pyd_value.specs.Size.{total, size_of}
-use Rattle.pyd_value.specs.Limits.{largest_size}
+use Rattle.pyd_value.specs.Size.{total}
 use Rattle.pyd_value.specs.declared.value.Value.{Value, the_lemmas}
 use Rattle.pyd_value.specs.declared.value.Value.TheVariants as value
 use Rattle.pyd_value.specs.declared.operator.BinOp.{BinOp}

@@ -1,5 +1,5 @@
 -- Statements that are well formed and have few parts, and what is made of them.
-use Rattle.std.proofs.Common.{◌≡◌, ℕ, ◌+◌, ◌≤◌, List, [], ◌∷◌, length, map, Option, Some, None, Bool, true, false, ◌&&◌, refl, ap, sym, ◌∙◌, arith}
+use Rattle.std.proofs.Common.{◌≡◌, ℕ, ◌+◌, ◌≤◌, List, [], ◌∷◌, length, map, Option, Some, None, true, refl, ◌∙◌, arith}
 use Rattle.std.specs.Prelude.{option_map}
 use Rattle.std.proofs.lemmas.Bool.{and_from}
 use Rattle.pyd_value.specs.Size.{total}
@@ -11,7 +11,7 @@ use Rattle.pyd_tree.specs.declared.statement.What.TheVariants as what
 use Rattle.pyd_tree.specs.declared.statement.Block.{Block, roll-Block}
 use Rattle.pyd_tree.specs.declared.statement.Stmt.{Stmt}
 use Rattle.pyd_tree.specs.declared.statement.Arm.{Arm, roll-Arm}
-use Rattle.pyd_names.specs.WellFormed.{expression_parts, or_zero, is_formed_expression, all_hold, or_true, block_parts, statement_parts, is_formed_block, is_formed_statement, formed_targets}
+use Rattle.pyd_names.specs.WellFormed.{or_zero, all_hold, or_true, block_parts, statement_parts, is_formed_block, is_formed_statement, formed_targets}
 use Rattle.pyd_grammar.proofs.StatementParts.{what_parts, arm_parts, is_formed_what, is_formed_arm, stmt_parts, stmt_formed, block_is, block_formed, arm_is, arm_formed, if_parts, if_formed, while_parts, while_formed, for_parts, for_formed, expression_is, expression_formed, assign_parts, assign_formed, aug_parts, aug_formed, return_parts, return_formed, assert_parts, assert_formed, pass_parts, pass_formed, break_parts, break_formed, continue_parts, continue_formed}
 use Rattle.pyd_grammar.proofs.FormedExpressions.{Formed, FormedMaybe}
 

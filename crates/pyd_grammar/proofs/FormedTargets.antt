@@ -1,15 +1,13 @@
 -- The targets that the left side of an assignment is.
-use Rattle.std.proofs.Common.{◌≡◌, ℕ, suc, ◌+◌, ◌≤◌, List, [], ◌∷◌, length, map, Option, Some, None, Bool, true, false, refl, ap, sym, ◌∙◌, subst, arith}
+use Rattle.std.proofs.Common.{◌≡◌, ℕ, suc, ◌+◌, ◌≤◌, List, [], ◌∷◌, length, map, Option, Some, None, true, refl, ap, sym, ◌∙◌, subst, arith}
 use Rattle.std.specs.Prelude.{option_map, option_and_then, unwrap_or}
 use Rattle.pyd_value.specs.Size.{total}
 use Rattle.pyd_tree.specs.declared.expression.Expr.{Expr, out-Expr}
-use Rattle.pyd_tree.specs.declared.expression.Expr.TheFolds.{map-Expr, fold_out-Expr}
+use Rattle.pyd_tree.specs.declared.expression.Expr.TheFolds.{fold_out-Expr}
 use Rattle.pyd_tree.specs.declared.expression.Expr.TheOpen.{Expr-F}
 use Rattle.pyd_tree.specs.declared.expression.Suffix.{Suffix}
-use Rattle.pyd_tree.specs.declared.statement.Targets.{Targets}
-use Rattle.pyd_derivation.specs.Actions.{name_of, all_names, tuple_names, targets_at, targets_of, no_targets}
+use Rattle.pyd_derivation.specs.Actions.{name_of, all_names, targets_at, targets_of, no_targets}
 use Rattle.pyd_names.specs.WellFormed.{expression_parts, count_expression, count_suffix}
-use Rattle.pyd_grammar.proofs.ExpressionParts.{suffix_parts}
 use Rattle.pyd_grammar.proofs.FormedStatements.{FormedTargets}
 
 -- an expression has itself among its parts

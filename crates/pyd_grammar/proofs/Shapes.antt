@@ -1,5 +1,5 @@
 -- What each rule's symbol is read as, given how many parts its tokens may make.
-use Rattle.std.proofs.Common.{◌≡◌, ℕ, ◌+◌, ◌≤◌, List, [], ◌∷◌, ◌++◌, length, map, get_or, Option, Some, None, Bool, true, cond, leb}
+use Rattle.std.proofs.Common.{◌≡◌, ℕ, ◌+◌, ◌≤◌, List, [], ◌∷◌, ◌++◌, length, map, get_or, true, cond, leb}
 use Rattle.std.specs.List.{list_all}
 use Rattle.pyd_value.specs.Size.{total}
 use Rattle.pyd_syntax.specs.declared.symbol.Symbol.{Symbol}

@@ -1,16 +1,15 @@
 -- What the productions of statements, functions and files make is well formed and has few parts.
-use Rattle.std.proofs.Common.{◌≡◌, ℕ, ◌+◌, ◌≤◌, List, [], ◌∷◌, length, Option, Some, None, Bool, true, false, refl, arith}
+use Rattle.std.proofs.Common.{ℕ, ◌+◌, ◌≤◌, List, [], ◌∷◌, Some, None, refl, arith}
 use Rattle.std.specs.Prelude.{unwrap_or}
 use Rattle.std.proofs.lemmas.Bool.{and_from}
 use Rattle.pyd_tree.specs.declared.expression.Expr.{Expr}
-use Rattle.pyd_tree.specs.declared.statement.What.{What}
 use Rattle.pyd_tree.specs.declared.statement.What.TheVariants as what
 use Rattle.pyd_derivation.specs.declared.piece.Piece.{Piece}
 use Rattle.pyd_derivation.specs.declared.piece.Piece.TheVariants as piece
 use Rattle.pyd_derivation.specs.Pieces.{name_in, tuple_of, optional_tuple, optional_suite, stmts_of, arms_of}
 use Rattle.pyd_derivation.specs.Actions.{as_assert, as_assign, as_augment, as_break, as_continue, as_decorated, as_def, as_elifs, as_end, as_for, as_function_item, as_if, as_import, as_items, as_more_targets, as_names, as_params, as_pass, as_return, as_simple, as_statement_item, as_stmts, as_suite, as_targets, as_while, second, assigned, arm, loop_targets, targets_of, no_targets, name_of}
 use Rattle.pyd_names.specs.WellFormed.{expression_parts}
-use Rattle.pyd_grammar.proofs.FormedExpressions.{Formed, FormedAll, FormedMaybe, formed_more, all_more, maybe_some, tuple}
+use Rattle.pyd_grammar.proofs.FormedExpressions.{Formed, FormedMaybe, formed_more, maybe_some, tuple}
 use Rattle.pyd_grammar.proofs.FormedStatements.{FormedWhat, FormedStmts, FormedArms, FormedOther, FormedTargets, statement, block, stmts_none, stmts_cons, arms_none, arms_cons, other_none, other_some, conditional, loop, iteration, expression, assign, augment, answer, assertion, pass, leave, again}
 use Rattle.pyd_grammar.proofs.FormedTargets.{targets_fit}
 use Rattle.pyd_grammar.proofs.ExpressionLaws.{tupled}
@@ -103,8 +102,8 @@ pub if_made : (bytes : List ℕ) (a b : Piece) (k : ℕ) → Meets Test b k → 
     (e : Piece) (p : ℕ) → Meets Other e p → (line : ℕ) → Meets Stmt (as_if bytes line a b c d e) (32 + k + m + n + p)
 if_made bytes a b k h c m i d n j e p o line =
     statement line (what.If (arm line b c ∷ arms_of d) (optional_suite e)) (32 + k + m + n + p) (32 + k + m + n + p)
-      (conditional (arm line b c) (arms_of d) (optional_suite e) (k + m + n) p (32 + k + m + n + p) (arms_from line b k h c m i d n j (k + m + n) (omega arith)) (other_fits e p o) (omega arith))
-      (omega arith)
+    (conditional (arm line b c) (arms_of d) (optional_suite e) (k + m + n) p (32 + k + m + n + p) (arms_from line b k h c m i d n j (k + m + n) (omega arith)) (other_fits e p o) (omega arith))
+    (omega arith)
 
 pub elifs_made : (bytes : List ℕ) (a b : Piece) (k : ℕ) → Meets Test b k → (c : Piece) (m : ℕ) → Meets Suite c m → (d : Piece) (n : ℕ) → Meets Arms d n →
     (line : ℕ) → Meets Arms (as_elifs bytes line a b c d) (32 + k + m + n)
@@ -130,7 +129,7 @@ pub for_made : (bytes : List ℕ) (a b c : Piece) (k : ℕ) → Meets Names c k 
 for_made bytes a b c k h d e m i (piece.Suite s) n j line =
     let t = loop_targets (name_in bytes b) c in
     statement line (what.For t (tuple_of e) s) (64 + k + 32 + m + n) (64 + k + 32 + m + n)
-      (iteration t (tuple_of e) s (1 + k) (m + 1) n (64 + k + 32 + m + n) (targets_behind (name_in bytes b) c k h) (tupled e m i) j (omega arith)) (omega arith)
+    (iteration t (tuple_of e) s (1 + k) (m + 1) n (64 + k + 32 + m + n) (targets_behind (name_in bytes b) c k h) (tupled e m i) j (omega arith)) (omega arith)
 for_made bytes a b c k h d e m i f n j line = absurd j
 
 pub targets_made : (bytes : List ℕ) (a b : Piece) (m : ℕ) → Meets Names b m → (line : ℕ) → Meets Names (as_targets bytes line a b) (32 + m)

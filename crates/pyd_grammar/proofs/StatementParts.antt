@@ -1,5 +1,5 @@
 -- What is known of each kind of statement: its parts, and whether it is well formed.
-use Rattle.std.proofs.Common.{◌≡◌, ℕ, ◌+◌, List, [], ◌∷◌, length, map, Option, Some, None, Bool, true, false, ◌&&◌, refl, ap, sym, ◌∙◌, rules}
+use Rattle.std.proofs.Common.{◌≡◌, ℕ, ◌+◌, List, ◌∷◌, length, map, Option, Bool, true, ◌&&◌, rules}
 use Rattle.std.specs.Prelude.{option_map}
 use Rattle.pyd_value.specs.Size.{total}
 use Rattle.pyd_value.specs.declared.operator.BinOp.{BinOp}
@@ -10,7 +10,7 @@ use Rattle.pyd_tree.specs.declared.statement.What.TheVariants as what
 use Rattle.pyd_tree.specs.declared.statement.Block.{Block, roll-Block}
 use Rattle.pyd_tree.specs.declared.statement.Stmt.{Stmt}
 use Rattle.pyd_tree.specs.declared.statement.Arm.{Arm, roll-Arm, fold-Arm}
-use Rattle.pyd_names.specs.WellFormed.{expression_parts, or_zero, is_formed_expression, all_hold, some_are, or_true, count_what, count_arm, count_block, count_statement, form_what, form_arm, form_block, form_statement, block_parts, statement_parts, is_formed_block, is_formed_statement, maybe_parts, is_formed_maybe, formed_targets}
+use Rattle.pyd_names.specs.WellFormed.{expression_parts, or_zero, is_formed_expression, all_hold, or_true, count_what, count_arm, count_block, count_statement, form_what, form_arm, form_block, form_statement, block_parts, statement_parts, is_formed_block, is_formed_statement, maybe_parts, is_formed_maybe, formed_targets}
 
 -- the parts of what a statement does
 abbrev pub what_parts : What → ℕ

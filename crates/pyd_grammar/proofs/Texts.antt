@@ -1,8 +1,7 @@
 -- A string token's text is no longer than its spelling, so it is within the size limit.
-use Rattle.std.proofs.Common.{◌≡◌, ℕ, zero, suc, ◌+◌, ◌-◌, ◌<◌, ◌≤◌, min, Bool, true, false, cond, ◌==◌, ◌&&◌, List, [], ◌∷◌, length, drop, take, Option, Some, None, refl, sym, ap, subst, ◌∙◌, arith, rules, if◌then◌else◌, encode_utf8_all, le-leb, length-append, length-drop, length-take}
+use Rattle.std.proofs.Common.{◌≡◌, ℕ, zero, suc, ◌+◌, ◌<◌, ◌≤◌, Bool, true, false, cond, ◌==◌, List, [], ◌∷◌, length, drop, take, Option, Some, None, refl, sym, ap, subst, arith, rules, if◌then◌else◌, encode_utf8_all, le-leb, length-append, length-drop, length-take}
 use Rattle.std.specs.Prelude.{encode_utf8}
-use Rattle.std.specs.Str.{IsUtf8, chars, is_utf8, all_scalars}
-use Rattle.std.specs.Char.{len_utf8}
+use Rattle.std.specs.Str.{chars, is_utf8, all_scalars}
 use Rattle.std.proofs.lemmas.Bool.{and_from, and_parts}
 use Rattle.std.proofs.lemmas.Str.{length-encode, len_utf8_bounds, len_utf8_ascii, IsUtf8-from_is_utf8, encodes-chars, chars-encodes, scalars-chars}
 use lib.Utf8.{scalar}

@@ -1,5 +1,5 @@
 -- The file that the tokens of a source are read as, or their first fault.
-use Rattle.std.specs.Prelude.{◌≡◌, ℕ, List, drop, Option, Some, None, Result, Ok, Err}
+use Rattle.std.specs.Prelude.{◌≡◌, ℕ, List, drop, Some, None, Result, Ok, Err}
 use Rattle.pyd_lex.specs.declared.token.Token.{Token}
 use Rattle.pyd_syntax.specs.Script.{IsFirstHopeless}
 use Rattle.pyd_tree.specs.declared.file.File.{File}

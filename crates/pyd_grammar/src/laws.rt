@@ -1,6 +1,6 @@
 //! Laws of the answers of [`parse`](crate::parse), each the contract of a function that does nothing.
 
-ghost use Rattle.pyd_grammar.specs.Laws.{OneAnswer, AnAnswer, FilesAreWellFormed};
+ghost use Rattle.pyd_grammar.specs.Laws.{OneAnswer, AnAnswer, FaultsByCause, FilesAreWellFormed};
 
 /// Tokens have one answer at most: a file or a fault with its line.
 pub fn one_answer()
@@ -20,6 +20,16 @@ pub fn an_answer()
     pyd_syntax::an_answer();
     pyd_derivation::files_are_scripts();
     pyd_measure::a_line();
+}
+
+/// `Syntax` is the answer exactly where the tokens have no derivation, and any other answer comes
+/// only where they have one.
+pub fn faults_by_cause()
+    ensures { FaultsByCause }
+{
+    pyd_syntax::one_first_hopeless();
+    pyd_syntax::an_answer();
+    pyd_derivation::files_are_scripts();
 }
 
 /// A file from a source within the limit meets the condition under which it is checked.

@@ -31,21 +31,14 @@ pub fn parse(alloc: Global, bytes: &[u8], tokens: &[Token]) -> Result<File, Pars
     pyd_lex::token_bytes();
     match derive(alloc, tokens) {
         Ok(steps) => build(alloc, bytes, tokens, steps.as_slice()),
-        Err(Stop::Hopeless(at)) => Err(ParseStop::Fault(ParseFault::Syntax(line_at(
-            tokens, at,
-        )))),
+        Err(Stop::Hopeless(at)) => Err(ParseStop::Fault(ParseFault::Syntax(line_at(tokens, at)))),
         Err(Stop::Unfinished) => unreachable!(),
         Err(Stop::NoMemory) => Err(ParseStop::NoMemory),
     }
 }
 
 /// The file that the derivation by these steps is read as, or the first fault.
-fn build(
-    alloc: Global,
-    bytes: &[u8],
-    tokens: &[Token],
-    steps: &[Step],
-) -> Result<File, ParseStop>
+fn build(alloc: Global, bytes: &[u8], tokens: &[Token], steps: &[Step]) -> Result<File, ParseStop>
     requires { IsDerivation steps.now tokens.now }
     ensures ok { IfOk result (λ file. Parses bytes.now tokens.now (Ok file)) }
     ensures fault { IfErr result (λ stop. IfFault stop (λ f. Parses bytes.now tokens.now (Err f))) }
