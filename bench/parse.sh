@@ -64,16 +64,13 @@ half = (MIB - 2) // 2
 shapes = {
     "statements": "x = y + 1\n" * (MIB // 10),
     "one long expression": "x" + " + x" * ((MIB - 2) // 4) + "\n",
-    "brackets": "(" * half + "1" + ")" * (MIB - 2 - half) + "\n",
+    "brackets": "(" * half + "1" + ")" * half + "\n",
     "open brackets": "(" * (MIB - 1) + "\n",
     "minus signs": "-" * (MIB - 2) + "1\n",
     "nots": "not " * ((MIB - 2) // 4) + "1\n",
-    "texts": "'" + "a" * 61 + "'\n",
-    "names": "a" * 63 + "\n",
+    "texts": ("'" + "a" * 61 + "'\n") * (MIB // 64),
+    "names": ("a" * 63 + "\n") * (MIB // 64),
 }
-shapes["brackets"] = "(" * ((MIB - 2) // 2) + "1" + ")" * ((MIB - 2) // 2) + "\n"
-shapes["texts"] *= MIB // len(shapes["texts"])
-shapes["names"] *= MIB // len(shapes["names"])
 for name, source in shapes.items():
     path = f"{work}/source"
     with open(path, "w") as out:
