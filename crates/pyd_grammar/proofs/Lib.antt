@@ -1,0 +1,13 @@
+pub mod ExpressionParts
+pub mod StatementParts
+pub mod FormedExpressions
+pub mod FormedStatements
+pub mod FormedTargets
+pub mod Shapes
+pub mod ExpressionLaws
+pub mod StatementLaws
+pub mod GrammarLaws
+pub mod Texts
+pub mod Weights
+pub mod FormedFiles
+pub mod Answers
