@@ -1,7 +1,12 @@
+pub mod Defaults
 pub mod Evaluation
-pub mod Printing
+pub mod Names
+pub mod Setting
+pub mod Reference
+pub mod Calls
 pub mod Expression
+pub mod Assignment
+pub mod Completion
+pub mod Loops
 pub mod Statement
 pub mod Module
-pub mod Laws
-pub mod Rows

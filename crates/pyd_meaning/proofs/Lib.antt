@@ -1,3 +1,0 @@
-pub mod Constructs
-pub mod Scripts
-pub mod Sequencing
