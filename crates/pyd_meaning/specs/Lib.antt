@@ -10,3 +10,8 @@ pub mod Completion
 pub mod Loops
 pub mod Statement
 pub mod Module
+pub mod Laws
+pub mod StatementLaws
+pub mod LoopLaws
+pub mod CallLaws
+pub mod Outcome
