@@ -1,6 +1,12 @@
 -- What each form of expression does.
-use Rattle.std.proofs.Common.{◌≡◌, ℕ, List, [], ◌∷◌, map, Option, Some, None, option_map, refl, sym, ap, ◌∙◌}
+use Rattle.std.proofs.Common.{◌≡◌, ℕ, ℤ, ◌+ℤ◌, List, [], ◌∷◌, map, Option, Some, None, option_map, refl, sym, ap, ◌∙◌}
+use Rattle.pyd_value.specs.declared.value.Value.TheVariants.{Int}
+use Rattle.pyd_value.specs.declared.operator.BinOp.TheVariants.{Add}
+use Rattle.pyd_value.specs.Shape.{number, shape_of}
+use Rattle.pyd_value.proofs.Constructs.{shape_of-int}
 use Rattle.pyd_tree.specs.declared.expression.Expr.{Expr}
+use Rattle.pyd_ops.specs.Integer.{integer}
+use Rattle.pyd_ops.specs.Operators.{add, binary}
 use Rattle.pyd_tree.specs.declared.expression.Expr.TheFolds.{fold-roll-Expr, fold-roll-Suffix}
 use Rattle.pyd_tree.specs.declared.expression.Expr.TheOpen.{Expr-F, Suffix-F}
 use Rattle.pyd_tree.specs.declared.expression.Expr.TheVariants as expression
@@ -12,9 +18,9 @@ use Rattle.pyd_meaning.specs.Evaluation.{gives, step, ◌>>=◌}
 use Rattle.pyd_meaning.specs.Setting.{Setting}
 use Rattle.pyd_meaning.specs.Reference.{read_as, callee_as, Uncallable}
 use Rattle.pyd_meaning.specs.Calls.{called}
-use Rattle.pyd_meaning.specs.Expression.{Meaning, SuffixMeaning, each, meaning_of, suffix_of, expression_step, suffix_step}
-use Rattle.pyd_meaning.specs.Laws.{ConditionalLaw, OrLaw, AndLaw, ComparisonLaw, ChainLaw, UnaryLaw, PowerLaw, SuffixedLaw, IndexLaw, SliceLaw, NameLaw, CallLaw, UnboundCallLaw, LiteralLaw, TupleLaw}
-use Rattle.pyd_meaning.proofs.Sequencing.{faults-then}
+use Rattle.pyd_meaning.specs.Expression.{Meaning, SuffixMeaning, each, chained, meaning_of, suffix_of, expression_step, suffix_step}
+use Rattle.pyd_meaning.specs.Laws.{ConditionalLaw, OrLaw, AndLaw, ComparisonLaw, ChainLaw, SumLaw, UnaryLaw, PowerLaw, SuffixedLaw, IndexLaw, SliceLaw, NameLaw, CallLaw, UnboundCallLaw, LiteralLaw, TupleLaw}
+use Rattle.pyd_meaning.proofs.Sequencing.{gives-then, faults-then, step-then}
 
 -- a conditional expression is its test, and then one of its sides
 pub conditional : ConditionalLaw
@@ -129,3 +135,13 @@ unbound_call setting name args at names unbound =
     call setting name args at names
     ∙ ap (λ r. step (callee_as r (read_as r setting.routine (names name) at) >>= (λ f. each (map (meaning_of setting) args) at names >>= (λ vs. called setting f vs at)))) unbound
     ∙ ap step (ap (λ m. m >>= (λ f. each (map (meaning_of setting) args) at names >>= (λ vs. called setting f vs at))) (faults-then (Raised NameError at.line) (λ v. gives Uncallable)) ∙ faults-then (Raised NameError at.line) (λ f. each (map (meaning_of setting) args) at names >>= (λ vs. called setting f vs at)))
+
+-- the sum of two integers
+binary-integers : (a b : ℤ) (line : ℕ) → binary Add (Int a) (Int b) line ≡ integer (a +ℤ b) line
+binary-integers a b line =
+    ap (λ x. add x (shape_of (Int b)) line) (shape_of-int a) ∙ ap (λ x. add (number a) x line) (shape_of-int b)
+
+-- each `+` in turn
+pub sum : SumLaw
+unfolding chained
+sum a b e links at names gives_b = rw (gives_b, step-then, gives-then, binary-integers) refl

@@ -5,3 +5,6 @@ pub mod Loops
 pub mod Calls
 pub mod Ranges
 pub mod Targets
+pub mod Levels
+pub mod Running
+pub mod Rules

@@ -6,7 +6,10 @@ use Rattle.pyd_tree.specs.declared.statement.Stmt.{Stmt}
 use Rattle.pyd_tree.specs.declared.statement.What.TheFolds.{fold-roll-What, fold_out-What, fold_out-Stmt, fold_out-Block, fold_out-Arm}
 use Rattle.pyd_tree.specs.declared.statement.What.TheOpen.{What-F, Arm-F, Block-F, Stmt-F}
 use Rattle.pyd_tree.specs.declared.statement.What.TheVariants as what
-use Rattle.pyd_meaning.specs.Completion.{Action}
+use Rattle.pyd_meaning.specs.Evaluation.{gives}
+use Rattle.pyd_meaning.specs.Names.{Names}
+use Rattle.pyd_meaning.specs.Setting.{Setting}
+use Rattle.pyd_meaning.specs.Completion.{Action, Break, Continue, left, normally}
 use Rattle.pyd_meaning.specs.Statement.{ArmAction, in_line, arm_step, block_step, statement_step, action_of, what_action, block_action, arm_action}
 use Rattle.pyd_meaning.specs.StatementLaws.{StatementLaw, SuiteLaw, IfLaw, ArmLaw, WhileLaw, ForLaw, ExpressionLaw, AssignmentLaw, AugmentedLaw, LeavingLaw, ReturnLaw, AssertLaw}
 
@@ -86,11 +89,27 @@ assert_statement setting test message line names =
     ap (λ w. what_action setting w line names) (sym (what.rolls-Assert test message))
     ∙ ap (λ (f : ℕ → Action). f line names) (fold-roll-What (ℕ → Action) ArmAction Action Action (in_line setting) (arm_step setting) block_step statement_step (What-F.Assert test message))
 
--- `pass`, `break` and `continue`
-pub leaving : LeavingLaw
+-- `pass`
+pub passes : (setting : Setting) (line : ℕ) (names : Names) → what_action setting what.Pass line names ≡ gives (normally names)
 unfolding what_action
-leaving = record {
-  passes = λ setting line names. ap (λ w. what_action setting w line names) (sym what.rolls-Pass) ∙ ap (λ (f : ℕ → Action). f line names) (fold-roll-What (ℕ → Action) ArmAction Action Action (in_line setting) (arm_step setting) block_step statement_step What-F.Pass);
-  breaks = λ setting line names. ap (λ w. what_action setting w line names) (sym what.rolls-Break) ∙ ap (λ (f : ℕ → Action). f line names) (fold-roll-What (ℕ → Action) ArmAction Action Action (in_line setting) (arm_step setting) block_step statement_step What-F.Break);
-  continues = λ setting line names. ap (λ w. what_action setting w line names) (sym what.rolls-Continue) ∙ ap (λ (f : ℕ → Action). f line names) (fold-roll-What (ℕ → Action) ArmAction Action Action (in_line setting) (arm_step setting) block_step statement_step What-F.Continue);
-}
+passes setting line names =
+    ap (λ w. what_action setting w line names) (sym what.rolls-Pass)
+    ∙ ap (λ (f : ℕ → Action). f line names) (fold-roll-What (ℕ → Action) ArmAction Action Action (in_line setting) (arm_step setting) block_step statement_step What-F.Pass)
+
+-- `break`
+pub breaks : (setting : Setting) (line : ℕ) (names : Names) → what_action setting what.Break line names ≡ gives (left Break names)
+unfolding what_action
+breaks setting line names =
+    ap (λ w. what_action setting w line names) (sym what.rolls-Break)
+    ∙ ap (λ (f : ℕ → Action). f line names) (fold-roll-What (ℕ → Action) ArmAction Action Action (in_line setting) (arm_step setting) block_step statement_step What-F.Break)
+
+-- `continue`
+pub continues : (setting : Setting) (line : ℕ) (names : Names) → what_action setting what.Continue line names ≡ gives (left Continue names)
+unfolding what_action
+continues setting line names =
+    ap (λ w. what_action setting w line names) (sym what.rolls-Continue)
+    ∙ ap (λ (f : ℕ → Action). f line names) (fold-roll-What (ℕ → Action) ArmAction Action Action (in_line setting) (arm_step setting) block_step statement_step What-F.Continue)
+
+-- the three of them
+pub leaving : LeavingLaw
+leaving = record { passes = passes; breaks = breaks; continues = continues }

@@ -1,9 +1,9 @@
 -- What each form of expression does, one law each, in the order of the grammar from the whole to its atoms.
-use Rattle.std.specs.Prelude.{◌≡◌, ℕ, List, [], ◌∷◌, map, Option, option_map}
-use Rattle.pyd_value.specs.declared.value.Value.{Value}
+use Rattle.std.specs.Prelude.{◌≡◌, ℕ, ℤ, ◌+ℤ◌, List, [], ◌∷◌, map, Option, option_map}
+use Rattle.pyd_value.specs.declared.value.Value.{Value, Int}
 use Rattle.pyd_value.specs.declared.fault.Kind.TheVariants.{NameError}
 use Rattle.pyd_value.specs.declared.operator.BinOp.{BinOp}
-use Rattle.pyd_value.specs.declared.operator.BinOp.TheVariants.{Pow}
+use Rattle.pyd_value.specs.declared.operator.BinOp.TheVariants.{Add, Pow}
 use Rattle.pyd_value.specs.declared.operator.CmpOp.{CmpOp}
 use Rattle.pyd_value.specs.declared.operator.UnOp.{UnOp}
 use Rattle.pyd_value.specs.Truth.{is_true}
@@ -12,6 +12,7 @@ use Rattle.pyd_tree.specs.declared.expression.Expr.TheVariants as expression
 use Rattle.pyd_tree.specs.declared.expression.Suffix.{Suffix}
 use Rattle.pyd_tree.specs.declared.expression.Suffix.TheVariants as suffix
 use Rattle.pyd_names.specs.Resolution as resolution
+use Rattle.pyd_ops.specs.Integer.{integer}
 use Rattle.pyd_ops.specs.Operators.{unary, binary}
 use Rattle.pyd_ops.specs.Indexing.{index, slice}
 use Rattle.pyd_ops.specs.Joining.{tuple_if_fits}
@@ -20,7 +21,7 @@ use Rattle.pyd_meaning.specs.Names.{Names}
 use Rattle.pyd_meaning.specs.Setting.{Place, Setting, raises}
 use Rattle.pyd_meaning.specs.Reference.{read, callee}
 use Rattle.pyd_meaning.specs.Calls.{called}
-use Rattle.pyd_meaning.specs.Expression.{meaning_of, suffix_of, branch, each, optional, chained, conjunction, disjunction, compared, suffixed}
+use Rattle.pyd_meaning.specs.Expression.{Meaning, meaning_of, suffix_of, branch, each, optional, chained, conjunction, disjunction, compared, suffixed}
 
 -- a conditional expression is its test, and then one of its sides
 abbrev pub ConditionalLaw : Type 0
@@ -54,6 +55,13 @@ ChainLaw = (setting : Setting) (first : Expr) (links : List (BinOp × Expr)) (at
     → meaning_of setting (expression.Chain first links) at names
     ≡ step (meaning_of setting first at names
     >>= (λ a. chained a (map (λ l. (l.0, meaning_of setting l.1)) links) at names))
+
+-- each `+` of integers in turn: the exact sum, and then its limit
+abbrev pub SumLaw : Type 0
+SumLaw = (a b : ℤ) (e : Meaning) (links : List (BinOp × Meaning)) (at : Place) (names : Names)
+    → e at names ≡ step (gives (Int b))
+    → chained (Int a) ((Add, e) ∷ links) at names
+    ≡ step (settled (integer (a +ℤ b) at.line) >>= (λ c. chained c links at names))
 
 -- an operator before an operand is the operand, and then the operator
 abbrev pub UnaryLaw : Type 0

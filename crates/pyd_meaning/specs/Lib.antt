@@ -15,3 +15,4 @@ pub mod StatementLaws
 pub mod LoopLaws
 pub mod CallLaws
 pub mod Outcome
+pub mod Rows

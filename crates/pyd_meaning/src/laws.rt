@@ -1,4 +1,4 @@
-//! The laws of expressions, in the order of the grammar. Each function has an empty body, and its contract is the law.
+//! The laws of expressions, in the order of the grammar: contracts of functions with empty bodies.
 ghost use Rattle.pyd_meaning.specs.Laws as law;
 
 /// A conditional expression evaluates its test first, and then one side (section 6.13).
@@ -16,7 +16,7 @@ pub fn and_law()
     ensures { law.AndLaw }
 {}
 
-/// A comparison evaluates each operand once at most, and stops at a link that is false (section 6.10).
+/// A comparison evaluates each operand once at most, and stops at a false link (section 6.10).
 pub fn comparison_law()
     ensures { law.ComparisonLaw }
 {}
@@ -24,6 +24,11 @@ pub fn comparison_law()
 /// A chain of operators of one level is evaluated from the left (sections 6.7 to 6.9).
 pub fn chain_law()
     ensures { law.ChainLaw }
+{}
+
+/// A `+` of integers is the exact sum, or the limit fault where that is too wide.
+pub fn sum_law()
+    ensures { law.SumLaw }
 {}
 
 /// An operator before an operand (sections 6.6 and 6.11).

@@ -2,7 +2,8 @@
 ghost use Rattle.std.specs.Prelude.{◌≡◌};
 ghost use Rattle.pyd_meaning.specs.Defaults.{default_limits};
 
-/// How many turns an activation of a loop may make, and how deep calls may be. The module has depth 0.
+/// How many turns an activation of a loop may make, and how deep calls may be, the module being at
+/// depth 0.
 #[derive(Clone, Copy, Debug, PartialEq, Eq)]
 pub struct Limits {
     pub turns: u64,

@@ -1,4 +1,4 @@
-//! The laws of loops, names, calls and scripts. Each function has an empty body, and its contract is the law.
+//! The laws of loops, names, calls and scripts: contracts of functions with empty bodies.
 ghost use Rattle.pyd_meaning.specs.LoopLaws as loops;
 ghost use Rattle.pyd_meaning.specs.CallLaws as calls;
 

@@ -1,4 +1,4 @@
-//! The laws of statements, in the order of the grammar. Each function has an empty body, and its contract is the law.
+//! The laws of statements, in the order of the grammar: contracts of functions with empty bodies.
 ghost use Rattle.pyd_meaning.specs.StatementLaws as law;
 
 /// An `if` evaluates its tests from the first on, up to one that is true (section 8.1).
