@@ -58,9 +58,11 @@ pub fn settle_all<K: Sink>(alloc: Global, file: &File, sink: &mut K) -> Result<E
     ensures end { IfOk result (λ end. end ≡ end_of (mean file.now default_limits).result) }
     ensures unraised { IfOk result IsUnraised }
     ensures ok { OnOk result
-        (Added (K.held sink.old) (bytes_of (mean file.now default_limits).lines) (K.held sink.new)) }
+        (Added (K.held sink.old) (bytes_of (mean file.now default_limits).lines)
+        (K.held sink.new)) }
     ensures err { OnErr result
-        (AddedPrefix (K.held sink.old) (bytes_of (mean file.now default_limits).lines) (K.held sink.new)) }
+        (AddedPrefix (K.held sink.old) (bytes_of (mean file.now default_limits).lines)
+        (K.held sink.new)) }
     ensures cause { Counted (K.faults sink.old) (K.faults sink.new)
         (IsErrOf result Halt.SinkFault) }
 {

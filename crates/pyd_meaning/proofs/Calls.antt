@@ -1,19 +1,17 @@
 -- What reading a name and a call do.
-use Rattle.std.proofs.Common.{◌≡◌, ◌≢◌, ℕ, zero, suc, ◌+◌, ◌-◌, ◌<◌, ◌≤◌, List, [], ◌∷◌, map, length, Option, Some, None, refl, sym, ap, ◌∙◌, subst, arith}
+use Rattle.std.proofs.Common.{◌≡◌, ◌≢◌, ℕ, zero, suc, ◌-◌, List, [], ◌∷◌, map, length, Some, None, refl, sym, ap, ◌∙◌, arith}
 use Rattle.pyd_value.specs.declared.value.Value.{Value}
-use Rattle.pyd_value.specs.declared.fault.Kind.TheVariants.{NameError, UnboundLocalError, TypeError}
+use Rattle.pyd_value.specs.declared.fault.Kind.TheVariants.{UnboundLocalError, TypeError}
 use Rattle.pyd_value.specs.declared.fault.Limit.TheVariants.{Depth}
 use Rattle.pyd_tree.specs.declared.file.File.{File}
 use Rattle.pyd_tree.specs.declared.file.Func.{Func}
 use Rattle.pyd_names.specs.Binding.{function}
-use Rattle.pyd_names.specs.Resolution.{Resolution}
-use Rattle.pyd_names.specs.Resolution as resolution
 use Rattle.pyd_meaning.specs.declared.limits.Limits.{Limits}
-use Rattle.pyd_meaning.specs.Evaluation.{Evaluation, gives}
+use Rattle.pyd_meaning.specs.Evaluation.{Evaluation}
 use Rattle.pyd_meaning.specs.Names.{Names, no_names, bind, bind_all}
-use Rattle.pyd_meaning.specs.Setting.{Place, place_of, Setting, raises, exceeds, unbound_local, value_or}
-use Rattle.pyd_meaning.specs.Reference.{read, read_as}
-use Rattle.pyd_meaning.specs.Module.{parameters, with_parameters, with_function, body_value, call_within, call_at, setting_of, setting_at, mean}
+use Rattle.pyd_meaning.specs.Setting.{Place, place_of, raises, exceeds, unbound_local, value_or}
+use Rattle.pyd_meaning.specs.Reference.{read_as}
+use Rattle.pyd_meaning.specs.Module.{parameters, with_parameters, with_function, body_value, call_within, setting_of, mean}
 use Rattle.pyd_meaning.specs.CallLaws.{ReadLaw, FunctionLaw, ModuleLaw}
 
 -- names and values of which there are not as many bind nothing

@@ -1,21 +1,18 @@
 -- What each form of expression does.
-use Rattle.std.proofs.Common.{◌≡◌, ℕ, ℤ, ◌+ℤ◌, List, [], ◌∷◌, map, Option, Some, None, option_map, refl, sym, ap, ◌∙◌}
+use Rattle.std.proofs.Common.{◌≡◌, ℕ, ℤ, ◌+ℤ◌, map, Some, None, refl, sym, ap, ◌∙◌}
 use Rattle.pyd_value.specs.declared.value.Value.TheVariants.{Int}
 use Rattle.pyd_value.specs.declared.operator.BinOp.TheVariants.{Add}
 use Rattle.pyd_value.specs.Shape.{number, shape_of}
 use Rattle.pyd_value.proofs.Constructs.{shape_of-int}
-use Rattle.pyd_tree.specs.declared.expression.Expr.{Expr}
 use Rattle.pyd_ops.specs.Integer.{integer}
 use Rattle.pyd_ops.specs.Operators.{add, binary}
 use Rattle.pyd_tree.specs.declared.expression.Expr.TheFolds.{fold-roll-Expr, fold-roll-Suffix}
 use Rattle.pyd_tree.specs.declared.expression.Expr.TheOpen.{Expr-F, Suffix-F}
 use Rattle.pyd_tree.specs.declared.expression.Expr.TheVariants as expression
-use Rattle.pyd_tree.specs.declared.expression.Suffix.{Suffix}
 use Rattle.pyd_tree.specs.declared.expression.Suffix.TheVariants as suffix
 use Rattle.pyd_value.specs.declared.fault.Fault.TheVariants.{Raised}
 use Rattle.pyd_value.specs.declared.fault.Kind.TheVariants.{NameError}
 use Rattle.pyd_meaning.specs.Evaluation.{gives, step, ◌>>=◌}
-use Rattle.pyd_meaning.specs.Setting.{Setting}
 use Rattle.pyd_meaning.specs.Reference.{read_as, callee_as, Uncallable}
 use Rattle.pyd_meaning.specs.Calls.{called}
 use Rattle.pyd_meaning.specs.Expression.{Meaning, SuffixMeaning, each, chained, meaning_of, suffix_of, expression_step, suffix_step}

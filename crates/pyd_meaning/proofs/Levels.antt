@@ -17,7 +17,7 @@ use Rattle.pyd_value.specs.Shape.{number_in}
 use Rattle.pyd_value.specs.Size.{size_of, nesting_of, total, greatest}
 use Rattle.pyd_value.proofs.Constructs.{shape_of-int, comparison_of-numbers, comparison_of-texts, comparison_of-none, size_of-text, size_of-tuple, size_of-int, nesting_of-text, nesting_of-tuple, nesting_of-int}
 use Rattle.pyd_text.specs.Texts.{repr, parenthesized}
-use Rattle.pyd_value.specs.declared.value.Value.{Value, out-Value, roll-Value, the_lemmas}
+use Rattle.pyd_value.specs.declared.value.Value.{Value, out-Value, the_lemmas}
 use Rattle.pyd_value.specs.declared.value.Value.TheOpen.{Value-F}
 use Rattle.pyd_value.specs.declared.value.Value.TheViews.{out-roll-Value}
 use Rattle.pyd_value.specs.declared.value.Value.TheVariants as value

@@ -1,5 +1,5 @@
 -- What a turn of a loop does.
-use Rattle.std.proofs.Common.{◌≡◌, ℕ, zero, suc, ◌-◌, List, Bool, true, false, Option, Some, None, refl, sym, ap, ◌∙◌}
+use Rattle.std.proofs.Common.{◌≡◌, ℕ, zero, suc, ◌-◌, Bool, true, false, Option, Some, None, ap}
 use Rattle.pyd_value.specs.declared.value.Value.{Value}
 use Rattle.pyd_value.specs.Truth.{is_true}
 use Rattle.pyd_tree.specs.declared.statement.Targets.{Targets}

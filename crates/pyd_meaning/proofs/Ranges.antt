@@ -1,7 +1,6 @@
 -- A range has its numbers within the limits, and targets take what they are given.
-use Rattle.std.proofs.Common.{◌≡◌, ◌≢◌, ◌↔◌, ℕ, zero, suc, ◌+◌, ◌*◌, ◌<◌, ◌≤◌, ℤ, pos, negsuc, ◌+ℤ◌, ◌*ℤ◌, ◌≤ℤ◌, nat_lt, List, [], ◌∷◌, map, length, Bool, true, false, ◌&&◌, Option, Some, None, refl, sym, ap, ◌∙◌, subst, arith}
+use Rattle.std.proofs.Common.{◌≡◌, ℕ, zero, suc, ◌*◌, ◌<◌, ◌≤◌, ℤ, pos, negsuc, ◌+ℤ◌, ◌*ℤ◌, ◌≤ℤ◌, nat_lt, Bool, true, false, ◌&&◌, refl, ap, ◌∙◌, arith}
 use Rattle.std.proofs.lemmas.Int.{ints}
-use Rattle.std.proofs.lemmas.Bool.Decides.{nat_tests}
 use Rattle.std.proofs.Math.Nat.{mul-le-mul_right}
 use Rattle.std.proofs.Math.IntN.{pos-*ℤ-negsuc}
 use Rattle.pyd_value.specs.Limits.{integer_bound}
@@ -10,7 +9,7 @@ use Rattle.pyd_ops.specs.declared.ranges.Span.{Span}
 use Rattle.pyd_ops.specs.Integer.{is_within}
 use Rattle.pyd_ops.specs.Ranges.{number_at}
 use Rattle.pyd_ops.proofs.Limits.{below, below_when}
-use Rattle.pyd_meaning.specs.Loops.{all_within, is_range}
+use Rattle.pyd_meaning.specs.Loops.{all_within}
 use Rattle.pyd_meaning.specs.LoopLaws.{RangeLaw}
 
 -- a number that isn't negative and has one within the limits above it

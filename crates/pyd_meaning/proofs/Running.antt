@@ -1,23 +1,19 @@
 -- A file that is a script does what the script's own parts do.
-use Rattle.std.proofs.Common.{◌≡◌, ℕ, zero, suc, ◌-◌, List, [], ◌∷◌, map, Option, Some, None, refl, ap, ◌∙◌, arith}
-use Rattle.pyd_value.specs.declared.value.Value.{Value}
+use Rattle.std.proofs.Common.{◌≡◌, ℕ, zero, suc, ◌-◌, List, map, ap, ◌∙◌, arith}
 use Rattle.pyd_value.specs.declared.fault.Limit.TheVariants.{Depth}
 use Rattle.pyd_tree.specs.declared.expression.Expr.{Expr}
 use Rattle.pyd_tree.specs.declared.file.File.{File}
-use Rattle.pyd_tree.specs.declared.file.Func.{Func}
 use Rattle.pyd_tree.specs.declared.statement.Stmt.{Stmt}
-use Rattle.pyd_tree.specs.declared.statement.Arm.{Arm, out-Arm, roll-Arm}
-use Rattle.pyd_tree.specs.declared.statement.Block.{Block, out-Block, roll-Block}
+use Rattle.pyd_tree.specs.declared.statement.Arm.{roll-Arm}
+use Rattle.pyd_tree.specs.declared.statement.Block.{Block, roll-Block}
 use Rattle.pyd_tree.specs.declared.statement.What.TheOpen.{Arm-F, Block-F}
 use Rattle.pyd_tree.specs.declared.statement.What.TheViews.{out-roll-Block, out-roll-Arm}
-use Rattle.pyd_names.specs.Resolution.{Resolution}
 use Rattle.pyd_meaning.specs.declared.limits.Limits.{Limits}
-use Rattle.pyd_meaning.specs.Evaluation.{Evaluation, gives, ◌>>=◌}
 use Rattle.pyd_meaning.specs.Names.{Names, no_names}
 use Rattle.pyd_meaning.specs.Setting.{Setting, Calls, place_of, exceeds}
 use Rattle.pyd_meaning.specs.Expression.{meaning_of}
-use Rattle.pyd_meaning.specs.Completion.{Reached, in_turn, value_after}
-use Rattle.pyd_meaning.specs.Statement.{ArmAction, action_of, block_action, arm_action}
+use Rattle.pyd_meaning.specs.Completion.{in_turn}
+use Rattle.pyd_meaning.specs.Statement.{action_of, block_action, arm_action}
 use Rattle.pyd_meaning.specs.Module.{with_function, body_value, call_within, mean}
 use Rattle.pyd_meaning.specs.Rows.{Script, IsScript, function_in, named, kinds_in}
 use Rattle.pyd_meaning.proofs.Statements.{suite as suite_does, arm as arm_does}

@@ -1,10 +1,7 @@
 -- What each form of statement does.
-use Rattle.std.proofs.Common.{◌≡◌, ℕ, List, [], ◌∷◌, map, Option, Some, None, option_map, refl, sym, ap, ◌∙◌}
-use Rattle.pyd_tree.specs.declared.statement.Arm.{Arm}
-use Rattle.pyd_tree.specs.declared.statement.Block.{Block}
-use Rattle.pyd_tree.specs.declared.statement.Stmt.{Stmt}
-use Rattle.pyd_tree.specs.declared.statement.What.TheFolds.{fold-roll-What, fold_out-What, fold_out-Stmt, fold_out-Block, fold_out-Arm}
-use Rattle.pyd_tree.specs.declared.statement.What.TheOpen.{What-F, Arm-F, Block-F, Stmt-F}
+use Rattle.std.proofs.Common.{◌≡◌, ℕ, Some, None, sym, ap, ◌∙◌}
+use Rattle.pyd_tree.specs.declared.statement.What.TheFolds.{fold-roll-What, fold_out-Stmt, fold_out-Block, fold_out-Arm}
+use Rattle.pyd_tree.specs.declared.statement.What.TheOpen.{What-F}
 use Rattle.pyd_tree.specs.declared.statement.What.TheVariants as what
 use Rattle.pyd_meaning.specs.Evaluation.{gives}
 use Rattle.pyd_meaning.specs.Names.{Names}

@@ -1,10 +1,5 @@
 -- Targets take what they are given.
-use Rattle.std.proofs.Common.{◌≡◌, ◌≢◌, ℕ, List, [], ◌∷◌, length, Bool, true, false, Option, Some, None, refl, ap, ◌∙◌}
-use Rattle.pyd_value.specs.declared.value.Value.{Value}
-use Rattle.pyd_tree.specs.declared.statement.Targets.{Targets}
-use Rattle.pyd_ops.specs.Sequence.{items}
-use Rattle.pyd_meaning.specs.Names.{Names}
-use Rattle.pyd_meaning.specs.Setting.{Place}
+use Rattle.std.proofs.Common.{[], ◌∷◌, Some, ap, ◌∙◌}
 use Rattle.pyd_meaning.specs.Assignment.{values_for, bound_or_error, assign_values}
 use Rattle.pyd_meaning.specs.LoopLaws.{TargetsLaw}
 use Rattle.pyd_meaning.proofs.Calls.{bind_all-uneven}

@@ -1,5 +1,5 @@
 -- What reading a name, a call and a script do.
-use Rattle.std.specs.Prelude.{◌≡◌, ◌≢◌, ℕ, suc, ◌<◌, ◌≤◌, List, [], ◌∷◌, map, length, Option, Some, None}
+use Rattle.std.specs.Prelude.{◌≡◌, ◌≢◌, ℕ, ◌<◌, ◌≤◌, List, map, length, Some, None}
 use Rattle.pyd_value.specs.declared.value.Value.{Value}
 use Rattle.pyd_value.specs.declared.fault.Kind.TheVariants.{NameError, UnboundLocalError, TypeError}
 use Rattle.pyd_value.specs.declared.fault.Limit.TheVariants.{Depth}

@@ -1,5 +1,5 @@
 -- What each form of expression does, one law each, in the order of the grammar from the whole to its atoms.
-use Rattle.std.specs.Prelude.{◌≡◌, ℕ, ℤ, ◌+ℤ◌, List, [], ◌∷◌, map, Option, option_map}
+use Rattle.std.specs.Prelude.{◌≡◌, ℕ, ℤ, ◌+ℤ◌, List, ◌∷◌, map, Option, option_map}
 use Rattle.pyd_value.specs.declared.value.Value.{Value, Int}
 use Rattle.pyd_value.specs.declared.fault.Kind.TheVariants.{NameError}
 use Rattle.pyd_value.specs.declared.operator.BinOp.{BinOp}

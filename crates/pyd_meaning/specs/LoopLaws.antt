@@ -1,6 +1,6 @@
 -- What a turn of a loop does, from the value of the test on or from an item on, and what a range has.
-use Rattle.std.specs.Prelude.{◌≡◌, ◌≢◌, ◌↔◌, ℕ, zero, suc, ◌<◌, ℤ, pos, List, [], ◌∷◌, length, Bool, true, false, Option, Some, None, Ok}
-use Rattle.pyd_value.specs.declared.value.Value.{Value, Int}
+use Rattle.std.specs.Prelude.{◌≡◌, ◌≢◌, ◌↔◌, ℕ, suc, ◌<◌, pos, List, [], ◌∷◌, length, Bool, true, false, Some, None}
+use Rattle.pyd_value.specs.declared.value.Value.{Value}
 use Rattle.pyd_value.specs.declared.fault.Kind.TheVariants.{TypeError, ValueError}
 use Rattle.pyd_value.specs.declared.fault.Limit.TheVariants.{Turn}
 use Rattle.pyd_value.specs.Truth.{is_true, is_nonzero}

@@ -1,5 +1,5 @@
 -- What is printed in the end and what is given, where an evaluation comes after lines that were printed before.
-use Rattle.std.specs.Prelude.{◌≡◌, ℕ, List, [], ◌∷◌, ◌++◌, Result}
+use Rattle.std.specs.Prelude.{◌≡◌, ℕ, List, ◌++◌, Result}
 use Rattle.pyd_value.specs.declared.value.Value.{Value}
 use Rattle.pyd_value.specs.declared.fault.Fault.{Fault}
 use Rattle.pyd_ops.specs.Answer.{outcome_of}

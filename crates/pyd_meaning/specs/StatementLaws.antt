@@ -1,6 +1,5 @@
 -- What each form of statement does, one law each, in the order of the grammar.
-use Rattle.std.specs.Prelude.{◌≡◌, ℕ, List, [], ◌∷◌, map, Option, Some, None, option_map}
-use Rattle.pyd_value.specs.declared.value.Value.{Value}
+use Rattle.std.specs.Prelude.{◌≡◌, ℕ, List, map, Option, option_map}
 use Rattle.pyd_value.specs.declared.operator.BinOp.{BinOp}
 use Rattle.pyd_value.specs.Truth.{is_true}
 use Rattle.pyd_tree.specs.declared.expression.Expr.{Expr}
@@ -16,7 +15,7 @@ use Rattle.pyd_meaning.specs.Setting.{place_of, Setting}
 use Rattle.pyd_meaning.specs.Reference.{read}
 use Rattle.pyd_meaning.specs.Expression.{meaning_of, branch}
 use Rattle.pyd_meaning.specs.Assignment.{assign}
-use Rattle.pyd_meaning.specs.Completion.{Action, Break, Continue, Return, left, normally, in_turn}
+use Rattle.pyd_meaning.specs.Completion.{Break, Continue, Return, left, normally, in_turn}
 use Rattle.pyd_meaning.specs.Loops.{while_loop, for_loop}
 use Rattle.pyd_meaning.specs.Statement.{action_of, what_action, block_action, arm_action, arms, otherwise, value_or_none, calls_range, assertion_failed}
 

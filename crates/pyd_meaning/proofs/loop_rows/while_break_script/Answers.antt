@@ -1,6 +1,5 @@
 use Rattle.std.proofs.Common.{refl, ap, ◌∙◌}
 use Rattle.std.specs.Fmt.{digits}
-use Rattle.pyd_meaning.specs.Defaults.{default_limits}
 use Rattle.pyd_meaning.specs.Evaluation.{settled, step, prints, ◌>>=◌}
 use Rattle.pyd_meaning.specs.Expression.{each, chained, conjunction, disjunction, compared, suffixed}
 use Rattle.pyd_meaning.specs.Completion.{in_turn}

@@ -6,7 +6,7 @@ use Rattle.pyd_meaning.specs.Expression.{each, chained, conjunction, disjunction
 use Rattle.pyd_meaning.specs.Completion.{in_turn}
 use Rattle.pyd_meaning.specs.Loops.{while_from, for_from}
 use Rattle.pyd_meaning.specs.Statement.{arms}
-use Rattle.pyd_meaning.specs.Rows.{seen, at_most}
+use Rattle.pyd_meaning.specs.Rows.{seen}
 use Rattle.pyd_meaning.proofs.Running.{script_means, calls_in}
 use Rattle.pyd_meaning.proofs.Rules.{lines, statements, expressions, values}
 use Rattle.pyd_meaning.proofs.statement_rows.assert_passes_script.Goals as goal
