@@ -14,11 +14,14 @@ use Rattle.pyd_tree.specs.declared.expression.Expr.{Expr, out-Expr}
 use Rattle.pyd_tree.specs.declared.expression.Expr.TheOpen.{Expr-F}
 use Rattle.pyd_meaning.specs.Evaluation.{Evaluation, settled, faults, step, ◌>>=◌}
 use Rattle.pyd_ops.specs.Integer.{integer, is_within}
-use Rattle.pyd_meaning.specs.Expression.{Place, meaning_of, chained}
-use Rattle.pyd_meaning.proofs.Constructs.{meaning_of_literal, chained_sum}
+use Rattle.pyd_meaning.specs.Names.{no_names}
+use Rattle.pyd_meaning.specs.Setting.{place_of}
+use Rattle.pyd_meaning.specs.Expression.{meaning_of, chained}
+use Rattle.pyd_meaning.proofs.Expressions.{sum}
 use Rattle.pyd_meaning.proofs.Sequencing.{gives-then, faults-then}
 use Rattle.pyd_core.specs.Sums.{IsAddend}
-use Rattle.pyd_core.specs.Outcome.{in_line, meanings, Adds, IsSilent, SameOutcome}
+use Rattle.pyd_core.proofs.Levels.{literal_means, each_meaning}
+use Rattle.pyd_core.specs.Outcome.{sums_setting, meaning_in, added, Adds, IsSilent, SameOutcome}
 
 -- what fits 128 bits is within the limit
 is_within-fits : (z : ℤ) → FitsSigned w128 z → is_within z ≡ true
@@ -37,10 +40,10 @@ integer-wide : (z : ℤ) (line : ℕ) → ¬ FitsSigned w128 z → integer z lin
 integer-wide z line wide = rw (is_within-wide z wide) refl
 
 -- one `+`, and those behind it
-chained-addend : (a b : ℤ) (l : BinOp × Expr) (rest : List (BinOp × Expr)) (at : Place) → IsAddend l → out-Expr l.1 ≡ Expr-F.Lit (Int b)
-    → chained (Int a) (meanings (l ∷ rest)) at ≡ step (settled (integer (a +ℤ b) at.line) >>= (λ c. chained c (meanings rest) at))
-chained-addend a b l rest at addend literal =
-    rw addend.plus (chained_sum a b (meaning_of l.1) (meanings rest) at (meaning_of_literal l.1 (Int b) at literal))
+chained-addend : (a b : ℤ) (l : BinOp × Expr) (rest : List (BinOp × Expr)) (line : ℕ) → IsAddend l → out-Expr l.1 ≡ Expr-F.Lit (Int b)
+    → added (Int a) (l ∷ rest) line ≡ step (settled (integer (a +ℤ b) line) >>= (λ c. added c rest line))
+chained-addend a b l rest line addend literal =
+    rw addend.plus (sum a b (meaning_of sums_setting l.1) (each_meaning rest) (place_of line) no_names (literal_means sums_setting l.1 (Int b) (place_of line) no_names literal))
 
 same_step : {A : Type 0} (e : Evaluation A) → SameOutcome (step e) e
 unfolding step
@@ -52,38 +55,38 @@ same_then p q = record { lines = p.lines ∙ q.lines; result = p.result ∙ q.re
 -- a sum that fits
 pub adds_within : (a b n : ℤ) (l : BinOp × Expr) (line : ℕ) → IsAddend l → out-Expr l.1 ≡ Expr-F.Lit (Int b) → FitsSigned w128 n → a +ℤ b ≡ n → Adds a l line (Ok n)
 adds_within a b n l line addend literal fits sum rest =
-    let opened : chained (Int a) (meanings (l ∷ rest)) (in_line line) ≡ step (chained (Int n) (meanings rest) (in_line line)) =
-    chained-addend a b l rest (in_line line) addend literal ∙ rw (sum, integer-fits n line fits, gives-then) refl in
+    let opened : added (Int a) (l ∷ rest) line ≡ step (added (Int n) rest line) =
+    chained-addend a b l rest line addend literal ∙ rw (sum, integer-fits n line fits, gives-then) refl in
     rw opened (same_step _)
 
 -- a sum that is too wide
 pub adds_wide : (a b : ℤ) (l : BinOp × Expr) (line : ℕ) → IsAddend l → out-Expr l.1 ≡ Expr-F.Lit (Int b) → ¬ FitsSigned w128 (a +ℤ b) → Adds a l line (Err (Limit limit.Int line))
 unfolding step settled
 adds_wide a b l line addend literal wide rest =
-    let opened : chained (Int a) (meanings (l ∷ rest)) (in_line line) ≡ step (faults (Limit limit.Int line)) =
-    chained-addend a b l rest (in_line line) addend literal ∙ rw (integer-wide (a +ℤ b) line wide, faults-then) refl in
+    let opened : added (Int a) (l ∷ rest) line ≡ step (faults (Limit limit.Int line)) =
+    chained-addend a b l rest line addend literal ∙ rw (integer-wide (a +ℤ b) line wide, faults-then) refl in
     rw opened (record { silent = refl; result = refl })
 
 -- one more turn of the loop
 pub adds_more : (a n : ℤ) (links : List (BinOp × Expr)) (i line : ℕ) (d : BinOp × Expr) (e : Evaluation Value)
     → i < length links → Adds a (get_or links i d) line (Ok n)
-    → SameOutcome e (chained (Int a) (meanings (drop i links)) (in_line line)) → SameOutcome e (chained (Int n) (meanings (drop (i + 1) links)) (in_line line))
+    → SameOutcome e (added (Int a) (drop i links) line) → SameOutcome e (added (Int n) (drop (i + 1) links) line)
 adds_more a n links i line d e within adds so_far =
-    rw add-one (same_then (subst (λ ls. SameOutcome e (chained (Int a) (meanings ls) (in_line line))) (drop-cons links i d within) so_far) (adds (drop (suc i) links)))
+    rw add-one (same_then (subst (λ ls. SameOutcome e (added (Int a) ls line)) (drop-cons links i d within) so_far) (adds (drop (suc i) links)))
 
 -- the turn that ends the loop
 pub adds_last : (a : ℤ) (f : Fault) (links : List (BinOp × Expr)) (i line : ℕ) (d : BinOp × Expr) (e : Evaluation Value)
     → i < length links → Adds a (get_or links i d) line (Err f)
-    → SameOutcome e (chained (Int a) (meanings (drop i links)) (in_line line)) → IsSilent e (Err f)
+    → SameOutcome e (added (Int a) (drop i links) line) → IsSilent e (Err f)
 adds_last a f links i line d e within adds so_far =
-    let here : SameOutcome e (chained (Int a) (meanings (get_or links i d ∷ drop (suc i) links)) (in_line line)) = subst (λ ls. SameOutcome e (chained (Int a) (meanings ls) (in_line line))) (drop-cons links i d within) so_far in
+    let here : SameOutcome e (added (Int a) (get_or links i d ∷ drop (suc i) links) line) = subst (λ ls. SameOutcome e (added (Int a) ls line)) (drop-cons links i d within) so_far in
     let end = adds (drop (suc i) links) in
     record { silent = here.lines ∙ end.silent; result = here.result ∙ end.result }
 
 -- no turn is left
 pub adds_none : (a : ℤ) (links : List (BinOp × Expr)) (i line : ℕ) (e : Evaluation Value)
-    → length links ≤ i → SameOutcome e (chained (Int a) (meanings (drop i links)) (in_line line)) → IsSilent e (Ok (Int a))
+    → length links ≤ i → SameOutcome e (added (Int a) (drop i links) line) → IsSilent e (Ok (Int a))
 unfolding chained settled
 adds_none a links i line e over so_far =
-    let here : SameOutcome e (chained (Int a) [] (in_line line)) = subst (λ ls. SameOutcome e (chained (Int a) (meanings ls) (in_line line))) (drop_all i links over) so_far in
+    let here : SameOutcome e (added (Int a) [] line) = subst (λ ls. SameOutcome e (added (Int a) ls line)) (drop_all i links over) so_far in
     record { silent = here.lines; result = here.result }

@@ -7,9 +7,11 @@ use Rattle.pyd_value.specs.declared.fault.End.TheVariants.{Finished}
 use Rattle.pyd_tree.specs.declared.file.Item.{Item}
 use Rattle.pyd_tree.specs.declared.file.Item.TheVariants as item
 use Rattle.pyd_meaning.specs.Evaluation.{Evaluation, settled, ◌>>=◌}
-use Rattle.pyd_meaning.specs.Statement.{Reached, Action, Names, normally, left_by, in_turn, action_of}
-use Rattle.pyd_meaning.specs.Module.{no_names, end_of, ended_by, bytes_of}
-use Rattle.pyd_core.specs.Outcome.{IsSilent, PrintsSumOf, Prints}
+use Rattle.pyd_meaning.specs.Names.{Names, no_names}
+use Rattle.pyd_meaning.specs.Completion.{Reached, Action, normally, left_by, in_turn}
+use Rattle.pyd_meaning.specs.Statement.{action_of}
+use Rattle.pyd_meaning.specs.Module.{end_of, ended_by, bytes_of}
+use Rattle.pyd_core.specs.Outcome.{sums_setting, IsSilent, PrintsSumOf, Prints}
 use Rattle.pyd_source.specs.Content.{AddedPrefix}
 use Rattle.pyd_core.specs.Settling.{Gathers, Settles, line_bytes, run_of}
 use Rattle.pyd_core.proofs.Putting.{gathers_none, gathers_more, prefix_more}
@@ -32,14 +34,14 @@ stops m f next names prints = rw (prints.silent, prints.result) (record { silent
 -- an item that prints, and then the rest
 run_of-prints : (i : Item) (n : ℤ) (rest : List Item) → Prints i (Ok n) → Follows (run_of (i ∷ rest)) (run_of rest) (signed_decimal n)
 unfolding run_of in_turn
-run_of-prints (item.Stmt s) n rest prints = goes_on (action_of s no_names) n _ no_names (prints no_names)
+run_of-prints (item.Stmt s) n rest prints = goes_on (action_of sums_setting s no_names) n _ no_names prints
 run_of-prints (item.Import line source names) n rest prints = absurd prints
 run_of-prints (item.Def f) n rest prints = absurd prints
 
 -- an item whose sum is a fault ends all
 run_of-ends : (i : Item) (f : Fault) (rest : List Item) → Prints i (Err f) → IsSilent (run_of (i ∷ rest)) (Err f)
 unfolding run_of in_turn
-run_of-ends (item.Stmt s) f rest prints = stops (action_of s no_names) f _ no_names (prints no_names)
+run_of-ends (item.Stmt s) f rest prints = stops (action_of sums_setting s no_names) f _ no_names prints
 run_of-ends (item.Import line source names) f rest prints = absurd prints
 run_of-ends (item.Def g) f rest prints = absurd prints
 

@@ -1,3 +1,3 @@
+pub mod Sums
 pub mod Outcome
 pub mod Settling
-pub mod Sums

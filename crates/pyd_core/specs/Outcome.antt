@@ -12,9 +12,16 @@ use Rattle.pyd_tree.specs.declared.expression.Expr.{Expr}
 use Rattle.pyd_tree.specs.declared.statement.Stmt.{Stmt}
 use Rattle.pyd_tree.specs.declared.file.Item.{Item}
 use Rattle.pyd_tree.specs.declared.file.Item.TheVariants as item
-use Rattle.pyd_meaning.specs.Evaluation.{Evaluation}
-use Rattle.pyd_meaning.specs.Expression.{Place, Meaning, meaning_of, chained}
-use Rattle.pyd_meaning.specs.Statement.{Names, normally, action_of}
+use Rattle.pyd_names.specs.Resolution as resolution
+use Rattle.pyd_value.specs.declared.value.Value.TheVariants as value
+use Rattle.pyd_value.specs.declared.operator.Builtin.TheVariants.{Print}
+use Rattle.pyd_meaning.specs.Defaults.{default_limits}
+use Rattle.pyd_meaning.specs.Evaluation.{Evaluation, gives}
+use Rattle.pyd_meaning.specs.Names.{no_names}
+use Rattle.pyd_meaning.specs.Setting.{Place, place_of, Setting}
+use Rattle.pyd_meaning.specs.Expression.{meaning_of, chained}
+use Rattle.pyd_meaning.specs.Completion.{normally}
+use Rattle.pyd_meaning.specs.Statement.{action_of}
 
 -- a limit, and no exception
 abbrev pub IsLimit : Fault → Type 0
@@ -27,13 +34,23 @@ IsUnraised ending.Finished = Unit {0}
 IsUnraised (ending.Limit l line) = Unit {0}
 IsUnraised (ending.Raised kind line) = ⊥
 
--- the place of an expression in this line
-abbrev pub in_line : ℕ → Place
-in_line line = record { line = line }
+-- the setting of sums: each name is the builtin `print`, and no function is called
+abbrev pub sums_setting : Setting
+sums_setting = record {
+  limits = default_limits;
+  routine = 0;
+  resolve = λ name. resolution.Builtin Print;
+  calls = λ k args line. gives value.None;
+}
 
--- each operator with the meaning of its right operand
-abbrev pub meanings : List (BinOp × Expr) → List (BinOp × Meaning)
-meanings links = map (λ (l : BinOp × Expr). (l.0, meaning_of l.1)) links
+-- what an expression in this line does, where no name is bound
+abbrev pub meaning_in : Expr → ℕ → Evaluation Value
+meaning_in e line = meaning_of sums_setting e (place_of line) no_names
+
+-- what operators behind a value do in this line
+abbrev pub added : Value → List (BinOp × Expr) → ℕ → Evaluation Value
+added a links line =
+    chained a (map (λ (l : BinOp × Expr). (l.0, meaning_of sums_setting l.1)) links) (place_of line) no_names
 
 -- an integer as a value
 abbrev pub as_value : Result ℤ Fault → Result Value Fault
@@ -53,17 +70,17 @@ pub record SameOutcome {A : Type 0} (e f : Evaluation A) : Type 0 where
 -- one addend onto a total in this line, whatever stands behind it
 abbrev pub Adds : ℤ → BinOp × Expr → ℕ → Result ℤ Fault → Type 0
 Adds total link line (Ok n) = (rest : List (BinOp × Expr))
-    → SameOutcome (chained (Int total) (meanings (link ∷ rest)) (in_line line)) (chained (Int n) (meanings rest) (in_line line))
-Adds total link line (Err f) = (rest : List (BinOp × Expr)) → IsSilent (chained (Int total) (meanings (link ∷ rest)) (in_line line)) (Err f)
+    → SameOutcome (added (Int total) (link ∷ rest) line) (added (Int n) rest line)
+Adds total link line (Err f) = (rest : List (BinOp × Expr)) → IsSilent (added (Int total) (link ∷ rest) line) (Err f)
 
 -- the line of a sum is printed and this comes out, or the sum's fault does
 abbrev pub PrintsSumOf : {A : Type 0} → Evaluation A → A → Result ℤ Fault → Type 0
 PrintsSumOf e x (Ok n) = (e.lines ≡ signed_decimal n ∷ []) × (e.result ≡ Ok x)
 PrintsSumOf e x (Err f) = IsSilent e (Err f)
 
--- what a statement that prints a sum does, whatever names are bound
+-- what a statement that prints a sum does
 abbrev pub StatementPrints : Stmt → Result ℤ Fault → Type 0
-StatementPrints s sum = (names : Names) → PrintsSumOf (action_of s names) (normally names) sum
+StatementPrints s sum = PrintsSumOf (action_of sums_setting s no_names) (normally no_names) sum
 
 -- the same of an item
 abbrev pub Prints : Item → Result ℤ Fault → Type 0

@@ -3,6 +3,7 @@ ghost use Rattle.std.specs.Prelude.{◌≡◌, [], ◌++◌, All, IfOk, OnOk, On
 ghost use Rattle.std.specs.Fmt.{signed_decimal};
 ghost use Rattle.pyd_source.specs.Content.{Added, AddedPrefix};
 ghost use Rattle.pyd_source.specs.Faults.{Counted};
+ghost use Rattle.pyd_meaning.specs.Defaults.{default_limits};
 ghost use Rattle.pyd_meaning.specs.Module.{mean, end_of, ended_by, bytes_of};
 ghost use Rattle.pyd_core.specs.declared.settle.Halt.TheVariants.{NoMemory, SinkFault};
 ghost use Rattle.pyd_core.specs.Outcome.{IsLimit, IsUnraised};
@@ -54,12 +55,14 @@ impl From<Short> for Halt {
 /// Writes the lines that this file prints, and answers how it ends.
 pub fn settle_all<K: Sink>(alloc: Global, file: &File, sink: &mut K) -> Result<End, Halt>
     requires { IsSums file.now }
-    ensures end { IfOk result (λ end. end ≡ end_of (mean file.now).result) }
+    ensures end { IfOk result (λ end. end ≡ end_of (mean file.now default_limits).result) }
     ensures unraised { IfOk result IsUnraised }
     ensures ok { OnOk result
-        (Added (K.held sink.old) (bytes_of (mean file.now).lines) (K.held sink.new)) }
+        (Added (K.held sink.old) (bytes_of (mean file.now default_limits).lines)
+        (K.held sink.new)) }
     ensures err { OnErr result
-        (AddedPrefix (K.held sink.old) (bytes_of (mean file.now).lines) (K.held sink.new)) }
+        (AddedPrefix (K.held sink.old) (bytes_of (mean file.now default_limits).lines)
+        (K.held sink.new)) }
     ensures cause { Counted (K.faults sink.old) (K.faults sink.new)
         (IsErrOf result Halt.SinkFault) }
 {

@@ -4,9 +4,8 @@ ghost use Rattle.pyd_value.specs.declared.value.Value.TheVariants.{Int, None};
 ghost use Rattle.pyd_tree.specs.declared.expression.Expr.{out-Expr};
 ghost use Rattle.pyd_tree.specs.declared.expression.Expr.TheOpen.{Expr-F};
 ghost use Rattle.pyd_tree.specs.declared.statement.What.{out-What};
-ghost use Rattle.pyd_meaning.specs.Expression.{meaning_of, chained};
 ghost use Rattle.pyd_core.specs.Sums.{IsAddend, IsLiteral, IsSum, IsPrint, PrintsAt, PrintsSum};
-ghost use Rattle.pyd_core.specs.Outcome.{IsLimit, as_value, in_line, meanings, Adds, IsSilent, PrintsSumOf, StatementPrints, Prints};
+ghost use Rattle.pyd_core.specs.Outcome.{IsLimit, as_value, meaning_in, added, Adds, IsSilent, PrintsSumOf, StatementPrints, Prints};
 
 use pyd_tree::{BinOp, Expr, Item, Stmt, What};
 use pyd_value::{Fault, Limit, Value};
@@ -36,11 +35,14 @@ fn statement_sum(stmt: &Stmt) -> Result<i128, Fault>
 
 fn call_sum(e: &Expr, line: u32) -> Result<i128, Fault>
     requires { IsPrint e.now }
-    ensures prints { PrintsSumOf (meaning_of e.now (in_line line)) None result }
+    ensures prints { PrintsSumOf (meaning_in e.now line) None result }
     ensures limit { IfErr result IsLimit }
 {
     match e {
-        Expr::Call(_, args) => sum(&args.as_slice()[0], line),
+        Expr::Call(_, args) => match sum(&args.as_slice()[0], line) {
+            Ok(total) => Ok(total),
+            Err(fault) => Err(fault),
+        },
         _ => unreachable!(),
     }
 }
@@ -48,7 +50,7 @@ fn call_sum(e: &Expr, line: u32) -> Result<i128, Fault>
 /// A literal, or the sum of a chain.
 fn sum(e: &Expr, line: u32) -> Result<i128, Fault>
     requires { IsSum e.now }
-    ensures value { IsSilent (meaning_of e.now (in_line line)) (as_value result) }
+    ensures value { IsSilent (meaning_in e.now line) (as_value result) }
     ensures limit { IfErr result IsLimit }
 {
     match e {
@@ -61,8 +63,7 @@ fn sum(e: &Expr, line: u32) -> Result<i128, Fault>
 /// The sum of these addends onto the terms before them, each sum within the limit.
 fn sum_on(first: i128, links: &[(BinOp, Expr)], line: u32) -> Result<i128, Fault>
     requires { All IsAddend links.now }
-    ensures value { IsSilent (chained (Int first) (meanings links.now) (in_line line))
-        (as_value result) }
+    ensures value { IsSilent (added (Int first) links.now line) (as_value result) }
     ensures limit { IfErr result IsLimit }
 {
     let mut total = first;

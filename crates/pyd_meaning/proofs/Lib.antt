@@ -1,3 +1,10 @@
-pub mod Constructs
-pub mod Scripts
 pub mod Sequencing
+pub mod Expressions
+pub mod Statements
+pub mod Loops
+pub mod Calls
+pub mod Ranges
+pub mod Targets
+pub mod Levels
+pub mod Running
+pub mod Rules

@@ -37,7 +37,7 @@ abbrev pub go_on : {A B : Type 0} → List (List ℕ) → ℕ → Result A Fault
 go_on lines steps (Ok x) next = after lines steps (next x)
 go_on lines steps (Err f) next = record { lines = lines; result = Err f; steps = steps }
 
--- one evaluation and then the next, on the value of the first
 infixl 20 ◌>>=◌
+-- one evaluation and then the next, on the value of the first
 unfoldable pub ◌>>=◌ : {A B : Type 0} → Evaluation A → (A → Evaluation B) → Evaluation B
 e >>= next = go_on e.lines e.steps e.result next

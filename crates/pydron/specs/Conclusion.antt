@@ -8,6 +8,7 @@ use Rattle.pyd_value.specs.declared.fault.End.TheVariants as ending
 use Rattle.pyd_source.specs.Content.{Added, AddedPrefix, Emptied, TookExactly}
 use Rattle.pyd_source.specs.Faults.{Rose}
 use Rattle.pyd_tree.specs.declared.file.File.{File}
+use Rattle.pyd_meaning.specs.Defaults.{default_limits}
 use Rattle.pyd_meaning.specs.Module.{mean, end_of, bytes_of}
 use Rattle.pydron.specs.declared.status.Status.{Status}
 use Rattle.pydron.specs.declared.status.Status.TheVariants as status
@@ -40,20 +41,20 @@ PutsNothing t = Added t.held [] t.held_after
 
 -- all that the file prints was put, and the input was read to its end
 pub record PutsAll (file : File) (t : Traces) : Type 0 where
-  pub output : Added t.held (bytes_of (mean file).lines) t.held_after
+  pub output : Added t.held (bytes_of (mean file default_limits).lines) t.held_after
   pub read : Emptied t.left t.left_after
 
 -- some of what the file prints was put, from its beginning on
 pub record PutsPart (words : List (String Global)) (input : List ℕ) (t : Traces) : Type 0 where
   pub file : File
   pub accepted : IsAccepted words input file
-  pub output : AddedPrefix t.held (bytes_of (mean file).lines) t.held_after
+  pub output : AddedPrefix t.held (bytes_of (mean file default_limits).lines) t.held_after
 
 -- a file that is accepted ended so
 pub record Ends (words : List (String Global)) (input : List ℕ) (end : End) (t : Traces) : Type 0 where
   pub file : File
   pub accepted : IsAccepted words input file
-  pub end_is : end_of (mean file).result ≡ end
+  pub end_is : end_of (mean file default_limits).result ≡ end
   pub puts : PutsAll file t
 
 -- the words aren't those of a run, and nothing was taken

@@ -1,5 +1,0 @@
-use Rattle.pyd_meaning.proofs.Constructs.{action_of_expression}
-use Rattle.pyd_meaning.proofs.laws.expression_law.Goals as goal
-
-pub returns : goal.returns
-returns c = action_of_expression
