@@ -1,0 +1,292 @@
+-- The rules of scope, each as the lines that break it.
+use Rattle.std.specs.Prelude.{ℕ, suc, List, [], ◌∷◌, ◌++◌, map, codes, Bool, true, false, not, ◌&&◌, ◌||◌, if◌then◌else◌, Option, Some, None, is_some}
+use Rattle.std.specs.List.{filter, flat_map, list_any, list_all, enumerate_from}
+use Rattle.pyd_value.specs.declared.operator.Builtin.{Builtin}
+use Rattle.pyd_value.specs.declared.operator.Builtin.TheVariants as builtin
+use Rattle.pyd_tree.specs.declared.statement.Stmt.{Stmt}
+use Rattle.pyd_tree.specs.declared.file.File.{File}
+use Rattle.pyd_tree.specs.declared.file.Func.{Func}
+use Rattle.pyd_tree.specs.declared.file.Item.{Item}
+use Rattle.pyd_tree.specs.declared.file.Item.TheVariants as item
+use Rattle.pyd_names.specs.declared.binding.Binding.{Binding}
+use Rattle.pyd_names.specs.declared.name_use.NameUse.{NameUse}
+use Rattle.pyd_names.specs.declared.name_use.Manner.{Manner}
+use Rattle.pyd_names.specs.declared.name_use.Manner.TheVariants as manner
+use Rattle.pyd_names.specs.Literal.{literal}
+use Rattle.pyd_names.specs.Binding.{Line, same_name, is_among, bound_in, lines, statement_bindings, bindings, plain_assignment, literal_assignment, is_string_line, imported_names, functions, function}
+use Rattle.pyd_names.specs.Binding as line
+use Rattle.pyd_names.specs.Resolution.{Resolution, resolved, builtin_named}
+use Rattle.pyd_names.specs.Resolution as resolution
+use Rattle.pyd_names.specs.Uses.{routine_uses}
+use Rattle.pyd_scope.specs.Jumps.{returns, loose_breaks, breaks_in}
+
+-- the line, if it breaks the rule
+abbrev pub line_if : Bool → ℕ → List ℕ
+line_if breaks line = if breaks then line ∷ [] else []
+
+-- the lines of those that repeat a name before them
+abbrev pub repeats : List (List ℕ) → List Binding → List ℕ
+repeats before [] = []
+repeats before (b ∷ bs) = line_if (is_among before b.name) b.line ++ repeats (b.name ∷ before) bs
+
+-- the name that a `def` or a constant defines
+abbrev pub definition : Line → List Binding
+definition (line.Import line from names) = []
+definition (line.Function f) = bound_in f.line f.name ∷ []
+definition (line.Constant line name value) = bound_in line name ∷ []
+definition (line.Statement s) = []
+
+-- a `def` has the name of an earlier `def` or constant, or a constant that of an earlier `def`; no two constants have one name
+abbrev pub twice_defined : File → List ℕ
+twice_defined file = repeats [] (flat_map definition (lines file))
+
+-- whether no script may bind the name: a builtin's, `__name__`, or an imported one
+abbrev pub is_taken : File → List ℕ → Bool
+is_taken file name = is_some (builtin_named name) || same_name (codes "__name__") name || is_among (imported_names file) name
+
+-- the names of the `def`s
+abbrev pub function_names : File → List (List ℕ)
+function_names file = map (λ f. f.name) (functions file)
+
+-- the lines of the bindings whose names the test is true of
+abbrev pub lines_where : (List ℕ → Bool) → List Binding → List ℕ
+lines_where test [] = []
+lines_where test (b ∷ bs) = line_if (test b.name) b.line ++ lines_where test bs
+
+-- where a module line binds what it may not: a taken name, or by a module statement a `def`'s
+abbrev pub rebinds : File → Line → List ℕ
+rebinds file (line.Import line from names) = []
+rebinds file (line.Function f) = line_if (is_taken file f.name) f.line
+rebinds file (line.Constant line name value) = line_if (is_taken file name) line
+rebinds file (line.Statement s) = lines_where (λ name. is_taken file name || is_among (function_names file) name) (statement_bindings s)
+
+-- a `def`, a constant or a module statement binds a taken name, or a module statement a `def`'s name
+abbrev pub rebind : File → List ℕ
+rebind file = flat_map (rebinds file) (lines file)
+
+-- the numbers of the routines: the module, and then the functions
+abbrev pub routines : File → List ℕ
+routines file = 0 ∷ map (λ p. p.0) (enumerate_from 1 (functions file))
+
+-- the lines of some uses that the test is true of
+abbrev pub uses_where : (NameUse → Bool) → List NameUse → List ℕ
+uses_where test [] = []
+uses_where test (u ∷ us) = line_if (test u) u.line ++ uses_where test us
+
+-- the lines of the uses that the test is true of, in each routine
+abbrev pub uses_in_routines : File → (ℕ → NameUse → Bool) → List ℕ
+uses_in_routines file test = flat_map (λ k. uses_where (test k) (routine_uses file k)) (routines file)
+
+-- whether a name is called
+abbrev pub is_call : Manner → Bool
+is_call manner.Read = false
+is_call manner.Called = true
+is_call manner.Iterated = true
+
+-- whether a builtin is misused: read, or `range` not called as the whole iterable of a `for`
+abbrev pub misuses_builtin : Builtin → Manner → Bool
+misuses_builtin b manner.Read = true
+misuses_builtin builtin.Print manner.Called = false
+misuses_builtin builtin.Len manner.Called = false
+misuses_builtin builtin.Abs manner.Called = false
+misuses_builtin builtin.Min manner.Called = false
+misuses_builtin builtin.Max manner.Called = false
+misuses_builtin builtin.Sum manner.Called = false
+misuses_builtin builtin.Str manner.Called = false
+misuses_builtin builtin.Repr manner.Called = false
+misuses_builtin builtin.Int manner.Called = false
+misuses_builtin builtin.Bool manner.Called = false
+misuses_builtin builtin.Range manner.Called = true
+misuses_builtin b manner.Iterated = false
+
+-- whether a name is used as a value that has none: a `def` or a builtin that is read, an imported name, or a stray `range`
+abbrev pub is_no_value : Resolution → Manner → Bool
+is_no_value resolution.Local manner = false
+is_no_value (resolution.Constant v) manner = false
+is_no_value (resolution.Function k) manner = not (is_call manner)
+is_no_value resolution.Imported manner = true
+is_no_value (resolution.Builtin b) manner = misuses_builtin b manner
+is_no_value resolution.Variable manner = false
+is_no_value resolution.Unbound manner = false
+
+-- a `def` or a builtin is read, an imported name is read or called, or `range` is called but as the whole iterable of a `for`
+abbrev pub function_value : File → List ℕ
+function_value file = uses_in_routines file (λ k u. is_no_value (resolved file k u.name) u.manner)
+
+-- whether a name stands for a variable: a local, a constant or a module variable
+abbrev pub is_variable : Resolution → Bool
+is_variable resolution.Local = true
+is_variable (resolution.Constant v) = true
+is_variable (resolution.Function k) = false
+is_variable resolution.Imported = false
+is_variable (resolution.Builtin b) = false
+is_variable resolution.Variable = true
+is_variable resolution.Unbound = false
+
+-- a called name stands for a local, a constant or a module variable
+abbrev pub call_of_variable : File → List ℕ
+call_of_variable file = uses_in_routines file (λ k u. is_call u.manner && is_variable (resolved file k u.name))
+
+-- whether a name stands for a module variable seen from a function
+abbrev pub is_global : Resolution → Bool
+is_global resolution.Local = false
+is_global (resolution.Constant v) = false
+is_global (resolution.Function k) = false
+is_global resolution.Imported = false
+is_global (resolution.Builtin b) = false
+is_global resolution.Variable = true
+is_global resolution.Unbound = false
+
+-- in a function, a name that is read stands for a module variable
+abbrev pub global_read : File → List ℕ
+global_read file = uses_in_routines file (λ k u. not (is_call u.manner) && is_global (resolved file k u.name))
+
+-- whether a function has the decorator of this name
+abbrev pub has_mark : List ℕ → Func → Bool
+has_mark name f = list_any (λ m. same_name name m.1) f.marks
+
+-- whether a function is `@functional`
+abbrev pub is_functional : Func → Bool
+is_functional f = has_mark (codes "functional") f
+
+-- whether a routine that is there is `@functional`
+abbrev pub is_pure_function : Option Func → Bool
+is_pure_function None = false
+is_pure_function (Some f) = is_functional f
+
+-- whether a routine is pure; the module isn't
+abbrev pub is_pure : File → ℕ → Bool
+is_pure file k = is_pure_function (function file k)
+
+-- whether a builtin prints
+abbrev pub prints : Builtin → Bool
+prints builtin.Print = true
+prints builtin.Len = false
+prints builtin.Abs = false
+prints builtin.Min = false
+prints builtin.Max = false
+prints builtin.Sum = false
+prints builtin.Str = false
+prints builtin.Repr = false
+prints builtin.Int = false
+prints builtin.Bool = false
+prints builtin.Range = false
+
+-- whether a call of what a name stands for may print
+abbrev pub is_impure : File → Resolution → Bool
+is_impure file resolution.Local = false
+is_impure file (resolution.Constant v) = false
+is_impure file (resolution.Function k) = not (is_pure file k)
+is_impure file resolution.Imported = false
+is_impure file (resolution.Builtin b) = prints b
+is_impure file resolution.Variable = false
+is_impure file resolution.Unbound = false
+
+-- in a `@functional` body, a call of `print` or of a `def` that isn't `@functional`
+abbrev pub impure : File → List ℕ
+impure file = uses_in_routines file (λ k u. is_pure file k && (is_call u.manner && is_impure file (resolved file k u.name)))
+
+-- the `return`s of an item that stand in the module
+abbrev pub returns_outside : Item → List ℕ
+returns_outside (item.Import line from names) = []
+returns_outside (item.Def f) = []
+returns_outside (item.Stmt s) = returns s
+
+-- `return` in the module
+abbrev pub return_outside : File → List ℕ
+return_outside file = flat_map returns_outside file.items
+
+-- the `break`s and `continue`s of an item that stand in no loop
+abbrev pub breaks_outside : Item → List ℕ
+breaks_outside (item.Import line from names) = []
+breaks_outside (item.Def f) = loose_breaks f.body
+breaks_outside (item.Stmt s) = breaks_in s
+
+-- `break` or `continue` in no loop
+abbrev pub break_outside : File → List ℕ
+break_outside file = flat_map breaks_outside file.items
+
+-- whether a statement is a plain assignment
+abbrev pub is_plain : Stmt → Bool
+is_plain s = is_some (plain_assignment s)
+
+-- whether a `def` may follow: a string line, an import, a `def` or a plain assignment
+abbrev pub defs_may_follow : Item → Bool
+defs_may_follow (item.Import line from names) = true
+defs_may_follow (item.Def f) = true
+defs_may_follow (item.Stmt s) = is_string_line s || is_plain s
+
+-- the line of a `def` or an import
+abbrev pub head_line : Item → List ℕ
+head_line (item.Import line from names) = line ∷ []
+head_line (item.Def f) = f.line ∷ []
+head_line (item.Stmt s) = []
+
+-- the lines of the `def`s and imports that come late, where it is known whether each item before lets them follow
+abbrev pub late_from : Bool → List Item → List ℕ
+late_from early [] = []
+late_from early (i ∷ is) = (if early then [] else head_line i) ++ late_from (early && defs_may_follow i) is
+
+-- a `def` or import has before it an item that isn't a string line, an import, a `def` or a plain assignment
+abbrev pub late_def : File → List ℕ
+late_def file = late_from true file.items
+
+-- whether an item is a `def` or an import
+abbrev pub is_head : Item → Bool
+is_head (item.Import line from names) = true
+is_head (item.Def f) = true
+is_head (item.Stmt s) = false
+
+-- the line of a plain assignment of what isn't a literal
+abbrev pub computed_line : Item → List ℕ
+computed_line (item.Import line from names) = []
+computed_line (item.Def f) = []
+computed_line (item.Stmt s) = line_if (is_plain s && not (is_some (literal_assignment s))) s.line
+
+-- the lines of such assignments that have a `def` or import below them
+abbrev pub computed_above : List Item → List ℕ
+computed_above [] = []
+computed_above (i ∷ is) = (if list_any is_head is then computed_line i else []) ++ computed_above is
+
+-- a plain assignment of what isn't a literal has a `def` or import below it
+abbrev pub not_constant : File → List ℕ
+not_constant file = computed_above file.items
+
+-- the names that `pydron` has
+abbrev pub mark_names : List (List ℕ)
+mark_names = codes "schedule" ∷ codes "functional" ∷ []
+
+-- whether an import is of these names from `pydron`
+abbrev pub is_good_import : List ℕ → List (List ℕ) → Bool
+is_good_import from names = same_name (codes "pydron") from && list_all (is_among mark_names) names
+
+-- the lines of a function's decorators that are unknown, repeated, or named by no import above
+abbrev pub bad_marks : List (List ℕ) → List (List ℕ) → List (ℕ × List ℕ) → List ℕ
+bad_marks above before [] = []
+bad_marks above before (m ∷ ms) =
+    line_if (not (is_among mark_names m.1 && (is_among above m.1 && not (is_among before m.1)))) m.0
+    ++ bad_marks above (m.1 ∷ before) ms
+
+-- the lines of the decorators and imports that break the rule, from the names imported above
+abbrev pub bad_marks_from : List (List ℕ) → List Item → List ℕ
+bad_marks_from above [] = []
+bad_marks_from above (item.Import line from names ∷ is) = line_if (not (is_good_import from names)) line ++ bad_marks_from (above ++ names) is
+bad_marks_from above (item.Def f ∷ is) = bad_marks above [] f.marks ++ bad_marks_from above is
+bad_marks_from above (item.Stmt s ∷ is) = bad_marks_from above is
+
+-- a decorator other than `schedule` and `functional`, the same twice on one `def`, or one that no import above names; an import from another module or of another name
+abbrev pub decorator : File → List ℕ
+decorator file = bad_marks_from [] file.items
+
+-- whether a name occurs twice
+abbrev pub has_twice : List (List ℕ) → Bool
+has_twice [] = false
+has_twice (n ∷ ns) = is_among ns n || has_twice ns
+
+-- the line of a `def` with a parameter's name twice
+abbrev pub twice_in : Func → List ℕ
+twice_in f = line_if (has_twice (map (λ p. p.1) f.params)) f.line
+
+-- a parameter's name occurs twice in one `def`
+abbrev pub twice_parameter : File → List ℕ
+twice_parameter file = flat_map twice_in (functions file)
