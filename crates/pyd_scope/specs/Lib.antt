@@ -5,3 +5,4 @@ pub mod Leaving
 pub mod Rules
 pub mod Checks
 pub mod Answers
+pub mod Places

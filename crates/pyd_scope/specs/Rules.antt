@@ -13,7 +13,7 @@ use Rattle.pyd_names.specs.declared.name_use.NameUse.{NameUse}
 use Rattle.pyd_names.specs.declared.name_use.Manner.{Manner}
 use Rattle.pyd_names.specs.declared.name_use.Manner.TheVariants as manner
 use Rattle.pyd_names.specs.Literal.{literal}
-use Rattle.pyd_names.specs.Binding.{Line, same_name, is_among, bound_in, lines, statement_bindings, bindings, plain_assignment, literal_assignment, is_string_line, imported_names, functions, function}
+use Rattle.pyd_names.specs.Binding.{Line, same_name, is_among, bound_in, lines, module_bindings, plain_assignment, literal_assignment, is_string_line, imported_names, functions, function}
 use Rattle.pyd_names.specs.Binding as line
 use Rattle.pyd_names.specs.Resolution.{Resolution, resolved, builtin_named}
 use Rattle.pyd_names.specs.Resolution as resolution
@@ -24,54 +24,51 @@ use Rattle.pyd_scope.specs.Jumps.{returns, loose_breaks, breaks_in}
 abbrev pub line_if : Bool → ℕ → List ℕ
 line_if breaks line = if breaks then line ∷ [] else []
 
--- the lines of those that repeat a name before them
+-- the lines of the bindings whose names are bound by others before them
 abbrev pub repeats : List (List ℕ) → List Binding → List ℕ
 repeats before [] = []
-repeats before (b ∷ bs) = line_if (is_among before b.name) b.line ++ repeats (b.name ∷ before) bs
+repeats before (b ∷ bs) = line_if (is_among before b.name) b.line ++ repeats (before ++ b.name ∷ []) bs
 
--- the name that a `def` or a constant defines
+-- the lines of the bindings whose names the test is true of
+abbrev pub bound_where : (List ℕ → Bool) → List Binding → List ℕ
+bound_where test bs = flat_map (λ b. line_if (test b.name) b.line) bs
+
+-- what a `def` or a constant defines
 abbrev pub definition : Line → List Binding
 definition (line.Import line from names) = []
 definition (line.Function f) = bound_in f.line f.name ∷ []
 definition (line.Constant line name value) = bound_in line name ∷ []
 definition (line.Statement s) = []
 
--- a `def` has the name of an earlier `def` or constant, or a constant that of an earlier `def`; no two constants have one name
-abbrev pub twice_defined : File → List ℕ
-twice_defined file = repeats [] (flat_map definition (lines file))
+-- the `def`s and constants in text order
+abbrev pub definitions : File → List Binding
+definitions file = flat_map definition (lines file)
 
--- whether no script may bind the name: a builtin's, `__name__`, or an imported one
+-- rule 1: a `def` has the name of an earlier `def` or constant, or a constant that of an earlier `def`; no two constants have one name
+abbrev pub twice_defined : File → List ℕ
+twice_defined file = repeats [] (definitions file)
+
+-- whether no script may bind the name: it is a builtin's, `__name__`, or imported
 abbrev pub is_taken : File → List ℕ → Bool
-is_taken file name = is_some (builtin_named name) || same_name (codes "__name__") name || is_among (imported_names file) name
+is_taken file name = is_some (builtin_named name) || (same_name (codes "__name__") name || is_among (imported_names file) name)
 
 -- the names of the `def`s
 abbrev pub function_names : File → List (List ℕ)
 function_names file = map (λ f. f.name) (functions file)
 
--- the lines of the bindings whose names the test is true of
-abbrev pub lines_where : (List ℕ → Bool) → List Binding → List ℕ
-lines_where test [] = []
-lines_where test (b ∷ bs) = line_if (test b.name) b.line ++ lines_where test bs
-
--- where a module line binds what it may not: a taken name, or by a module statement a `def`'s
-abbrev pub rebinds : File → Line → List ℕ
-rebinds file (line.Import line from names) = []
-rebinds file (line.Function f) = line_if (is_taken file f.name) f.line
-rebinds file (line.Constant line name value) = line_if (is_taken file name) line
-rebinds file (line.Statement s) = lines_where (λ name. is_taken file name || is_among (function_names file) name) (statement_bindings s)
-
--- a `def`, a constant or a module statement binds a taken name, or a module statement a `def`'s name
+-- rule 2: a `def`, a constant or a module statement binds a taken name, or a module statement binds a `def`'s
 abbrev pub rebind : File → List ℕ
-rebind file = flat_map (rebinds file) (lines file)
+rebind file =
+    bound_where (is_taken file) (definitions file)
+    ++ bound_where (λ name. is_taken file name || is_among (function_names file) name) (module_bindings file)
 
 -- the numbers of the routines: the module, and then the functions
 abbrev pub routines : File → List ℕ
 routines file = 0 ∷ map (λ p. p.0) (enumerate_from 1 (functions file))
 
--- the lines of some uses that the test is true of
+-- the lines of the uses that the test is true of
 abbrev pub uses_where : (NameUse → Bool) → List NameUse → List ℕ
-uses_where test [] = []
-uses_where test (u ∷ us) = line_if (test u) u.line ++ uses_where test us
+uses_where test us = flat_map (λ u. line_if (test u) u.line) us
 
 -- the lines of the uses that the test is true of, in each routine
 abbrev pub uses_in_routines : File → (ℕ → NameUse → Bool) → List ℕ
@@ -109,7 +106,7 @@ is_no_value (resolution.Builtin b) manner = misuses_builtin b manner
 is_no_value resolution.Variable manner = false
 is_no_value resolution.Unbound manner = false
 
--- a `def` or a builtin is read, an imported name is read or called, or `range` is called but as the whole iterable of a `for`
+-- rule 3: a `def` or a builtin is read, an imported name is read or called, or `range` is called but as the whole iterable of a `for`
 abbrev pub function_value : File → List ℕ
 function_value file = uses_in_routines file (λ k u. is_no_value (resolved file k u.name) u.manner)
 
@@ -123,7 +120,7 @@ is_variable (resolution.Builtin b) = false
 is_variable resolution.Variable = true
 is_variable resolution.Unbound = false
 
--- a called name stands for a local, a constant or a module variable
+-- rule 4: a called name stands for a local, a constant or a module variable
 abbrev pub call_of_variable : File → List ℕ
 call_of_variable file = uses_in_routines file (λ k u. is_call u.manner && is_variable (resolved file k u.name))
 
@@ -137,7 +134,7 @@ is_global (resolution.Builtin b) = false
 is_global resolution.Variable = true
 is_global resolution.Unbound = false
 
--- in a function, a name that is read stands for a module variable
+-- rule 5: in a function, a name that is read stands for a module variable
 abbrev pub global_read : File → List ℕ
 global_read file = uses_in_routines file (λ k u. not (is_call u.manner) && is_global (resolved file k u.name))
 
@@ -182,7 +179,7 @@ is_impure file (resolution.Builtin b) = prints b
 is_impure file resolution.Variable = false
 is_impure file resolution.Unbound = false
 
--- in a `@functional` body, a call of `print` or of a `def` that isn't `@functional`
+-- rule 6: in a `@functional` body, a call of `print` or of a `def` that isn't `@functional`
 abbrev pub impure : File → List ℕ
 impure file = uses_in_routines file (λ k u. is_pure file k && (is_call u.manner && is_impure file (resolved file k u.name)))
 
@@ -192,7 +189,7 @@ returns_outside (item.Import line from names) = []
 returns_outside (item.Def f) = []
 returns_outside (item.Stmt s) = returns s
 
--- `return` in the module
+-- rule 7: `return` in the module
 abbrev pub return_outside : File → List ℕ
 return_outside file = flat_map returns_outside file.items
 
@@ -202,7 +199,7 @@ breaks_outside (item.Import line from names) = []
 breaks_outside (item.Def f) = loose_breaks f.body
 breaks_outside (item.Stmt s) = breaks_in s
 
--- `break` or `continue` in no loop
+-- rule 8: `break` or `continue` in no loop
 abbrev pub break_outside : File → List ℕ
 break_outside file = flat_map breaks_outside file.items
 
@@ -227,7 +224,7 @@ abbrev pub late_from : Bool → List Item → List ℕ
 late_from early [] = []
 late_from early (i ∷ is) = (if early then [] else head_line i) ++ late_from (early && defs_may_follow i) is
 
--- a `def` or import has before it an item that isn't a string line, an import, a `def` or a plain assignment
+-- rule 9: a `def` or import has before it an item that isn't a string line, an import, a `def` or a plain assignment
 abbrev pub late_def : File → List ℕ
 late_def file = late_from true file.items
 
@@ -248,7 +245,7 @@ abbrev pub computed_above : List Item → List ℕ
 computed_above [] = []
 computed_above (i ∷ is) = (if list_any is_head is then computed_line i else []) ++ computed_above is
 
--- a plain assignment of what isn't a literal has a `def` or import below it
+-- rule 10: a plain assignment of what isn't a literal has a `def` or import below it
 abbrev pub not_constant : File → List ℕ
 not_constant file = computed_above file.items
 
@@ -265,7 +262,7 @@ abbrev pub bad_marks : List (List ℕ) → List (List ℕ) → List (ℕ × List
 bad_marks above before [] = []
 bad_marks above before (m ∷ ms) =
     line_if (not (is_among mark_names m.1 && (is_among above m.1 && not (is_among before m.1)))) m.0
-    ++ bad_marks above (m.1 ∷ before) ms
+    ++ bad_marks above (before ++ m.1 ∷ []) ms
 
 -- the lines of the decorators and imports that break the rule, from the names imported above
 abbrev pub bad_marks_from : List (List ℕ) → List Item → List ℕ
@@ -274,19 +271,19 @@ bad_marks_from above (item.Import line from names ∷ is) = line_if (not (is_goo
 bad_marks_from above (item.Def f ∷ is) = bad_marks above [] f.marks ++ bad_marks_from above is
 bad_marks_from above (item.Stmt s ∷ is) = bad_marks_from above is
 
--- a decorator other than `schedule` and `functional`, the same twice on one `def`, or one that no import above names; an import from another module or of another name
+-- rule 11: a decorator other than `schedule` and `functional`, the same twice on one `def`, or one that no import above names; an import from another module or of another name
 abbrev pub decorator : File → List ℕ
 decorator file = bad_marks_from [] file.items
 
--- whether a name occurs twice
-abbrev pub has_twice : List (List ℕ) → Bool
-has_twice [] = false
-has_twice (n ∷ ns) = is_among ns n || has_twice ns
+-- whether a name is repeated, where these names stand before
+abbrev pub is_repeating : List (List ℕ) → List (List ℕ) → Bool
+is_repeating before [] = false
+is_repeating before (n ∷ ns) = is_among before n || is_repeating (before ++ n ∷ []) ns
 
--- the line of a `def` with a parameter's name twice
+-- the line of a function that has a parameter's name twice
 abbrev pub twice_in : Func → List ℕ
-twice_in f = line_if (has_twice (map (λ p. p.1) f.params)) f.line
+twice_in f = line_if (is_repeating [] (map (λ p. p.1) f.params)) f.line
 
--- a parameter's name occurs twice in one `def`
+-- rule 12: a parameter's name occurs twice in one `def`
 abbrev pub twice_parameter : File → List ℕ
 twice_parameter file = flat_map twice_in (functions file)

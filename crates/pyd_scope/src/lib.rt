@@ -4,6 +4,7 @@
 mod checks;
 mod jumps;
 mod least;
+mod names;
 mod program;
 mod refusal;
 mod routine;
