@@ -1,6 +1,10 @@
 -- Places of names in lists that grow at the end.
-use Rattle.std.proofs.Common.{◌≡◌, ℕ, suc, ◌+◌, List, [], ◌∷◌, ◌++◌, length, Bool, true, false, cond, not, ◌||◌, Option, Some, None, is_some, refl, ap, sym, ◌∙◌, arith, subst, inl, inr, ◌⊎◌}
-use Rattle.std.specs.List.{position_from, list_any}
+use Rattle.std.proofs.Common.{◌≡◌, ℕ, suc, ◌+◌, ◌<◌, nat_lt, ◌&&◌, encode_utf8_all, List, [], ◌∷◌, ◌++◌, length, Bool, true, false, cond, not, ◌||◌, Option, Some, None, is_some, refl, ap, sym, ◌∙◌, arith, subst, inl, inr, ◌⊎◌}
+use Rattle.std.specs.Str.{IsAscii, chars}
+use Rattle.std.specs.Char.{is_ascii}
+use Rattle.std.specs.List.{position_from, list_any, list_all}
+use Rattle.std.proofs.lemmas.Str.{encode_ascii, chars-IsAscii}
+use Rattle.std.proofs.lemmas.Str.Ascii.{IsAscii-nil, IsAscii-cons}
 use Rattle.std.specs.BTreeMap.{is_at}
 use Rattle.std.specs.Ordering.{is_eq, nat_cmp}
 use Rattle.std.specs.Cmp.Lexicographic.{slice_cmp}
@@ -102,3 +106,32 @@ place-grown names name key q size before after new keyed sized was is =
     ∙ ap (λ (n : ℕ). cond (is_at (slice_cmp nat_cmp name) q) (Some n) before) sized
     ∙ ap (λ (o : Option ℕ). cond (is_at (slice_cmp nat_cmp name) q) (Some (length names)) o) was
     ∙ sym (place-new names name q new)
+
+-- of two truth values that hold together, each does
+both_hold : (a b : Bool) → (a && b) ≡ true → (a ≡ true) × (b ≡ true)
+both_hold true b h = (refl, h)
+both_hold false b h = cc
+
+below_from_test : (n m : ℕ) → nat_lt n m ≡ true → n < m
+below_from_test n m h = grind arith
+
+-- a word of ASCII has no other bytes
+word_ascii : (word : List ℕ) → list_all is_ascii word ≡ true → IsAscii word
+word_ascii [] h = IsAscii-nil
+word_ascii (c ∷ cs) h =
+    let parts : (is_ascii c ≡ true) × (list_all is_ascii cs ≡ true) = both_hold (is_ascii c) (list_all is_ascii cs) h in
+    IsAscii-cons c cs (below_from_test c 128 parts.0) (word_ascii cs parts.1)
+
+-- a word of ASCII is its own bytes
+word_bytes : (word : List ℕ) → list_all is_ascii word ≡ true → encode_utf8_all word ≡ word
+word_bytes [] h = refl
+word_bytes (c ∷ cs) h =
+    let parts : (is_ascii c ≡ true) × (list_all is_ascii cs ≡ true) = both_hold (is_ascii c) (list_all is_ascii cs) h in
+    (λ k. encode_ascii c (below_from_test c 128 parts.0) k ++ word_bytes cs parts.1 k)
+
+-- the bytes of a name are those of a word of ASCII exactly where the name is the word
+pub same_word : (name word bytes : List ℕ) → list_all is_ascii word ≡ true → chars bytes ≡ name → bytes ≡ encode_utf8_all name
+    → same_name bytes word ≡ same_name name word
+same_word name word bytes ascii spelled encoded = both_ways (same_name bytes word) (same_name name word)
+    (λ h. (bytes_eq-Decides name word).1 (sym spelled ∙ ap chars (same_is bytes word h) ∙ chars-IsAscii word (word_ascii word ascii)))
+    (λ h. (bytes_eq-Decides bytes word).1 (encoded ∙ ap encode_utf8_all (same_is name word h) ∙ word_bytes word ascii))

@@ -1,5 +1,5 @@
 -- The least of lists end to end.
-use Rattle.std.proofs.Common.{◌≡◌, ℕ, ◌+◌, ◌<◌, ◌≤◌, min, List, [], ◌∷◌, ◌++◌, map, length, take, get_or, Option, Some, None, refl, ap, sym, ◌∙◌, arith}
+use Rattle.std.proofs.Common.{◌≡◌, ℕ, ◌+◌, ◌<◌, ◌≤◌, min, List, [], ◌∷◌, ◌++◌, map, length, take, drop, get_or, suc, add-one, drop-cons, Option, Some, None, refl, ap, sym, ◌∙◌, arith}
 use Rattle.std.specs.List.{flat_map}
 use Rattle.std.proofs.lemmas.List.{take_more, take_all}
 use Rattle.std.proofs.lemmas.Grind.{flat_map-append}
@@ -61,3 +61,14 @@ least_whole f xs i line past here = here ∙ ap (λ ys. least (flat_map f ys)) (
 pub least_joined_whole : {X : Type 0} (f : X → List ℕ) (xs : List X) (i : ℕ) (line : Option ℕ)
     → length xs ≤ i → line ≡ least (joined (map f (take i xs))) → line ≡ least (joined (map f xs))
 least_joined_whole f xs i line past here = here ∙ ap (λ ys. least (joined (map f ys))) (take_all i xs past)
+
+-- the items from a place on begin with the one there
+pub drop_at : {X : Type 0} (xs : List X) (i : ℕ) (x : X) → x ≡ get_or xs i x → i < length xs → drop i xs ≡ x ∷ drop (i + 1) xs
+drop_at xs i x is within = rw (add-one, drop-cons xs i x) (ap (λ y. y ∷ drop (suc i) xs) (sym is))
+
+-- the lines of the front are looked at, those of the rest are left
+pub least_onward : (whole line now : Option ℕ) (front rest : List ℕ)
+    → whole ≡ lesser line (least (front ++ rest)) → now ≡ lesser line (least front) → whole ≡ lesser now (least rest)
+least_onward whole line now front rest before after =
+    before ∙ ap (lesser line) (least-append front rest) ∙ sym (lesser_assoc line (least front) (least rest))
+    ∙ ap (λ l. lesser l (least rest)) (sym after)

@@ -3,6 +3,7 @@ use Rattle.std.specs.Prelude.{ℕ, suc, List, [], ◌∷◌, ◌++◌, map, code
 use Rattle.std.specs.List.{filter, flat_map, list_any, list_all, enumerate_from}
 use Rattle.pyd_value.specs.declared.operator.Builtin.{Builtin}
 use Rattle.pyd_value.specs.declared.operator.Builtin.TheVariants as builtin
+use Rattle.pyd_tree.specs.declared.expression.Expr.{Expr}
 use Rattle.pyd_tree.specs.declared.statement.Stmt.{Stmt}
 use Rattle.pyd_tree.specs.declared.file.File.{File}
 use Rattle.pyd_tree.specs.declared.file.Func.{Func}
@@ -13,7 +14,7 @@ use Rattle.pyd_names.specs.declared.name_use.NameUse.{NameUse}
 use Rattle.pyd_names.specs.declared.name_use.Manner.{Manner}
 use Rattle.pyd_names.specs.declared.name_use.Manner.TheVariants as manner
 use Rattle.pyd_names.specs.Literal.{literal}
-use Rattle.pyd_names.specs.Binding.{Line, same_name, is_among, bound_in, lines, module_bindings, plain_assignment, literal_assignment, is_string_line, imported_names, functions, function}
+use Rattle.pyd_names.specs.Binding.{Line, same_name, is_among, bound_in, lines, module_bindings, plain_assignment, is_string_line, imports_in, imported_names, functions, function}
 use Rattle.pyd_names.specs.Binding as line
 use Rattle.pyd_names.specs.Resolution.{Resolution, resolved, builtin_named}
 use Rattle.pyd_names.specs.Resolution as resolution
@@ -50,7 +51,7 @@ twice_defined file = repeats [] (definitions file)
 
 -- whether no script may bind the name: it is a builtin's, `__name__`, or imported
 abbrev pub is_taken : File → List ℕ → Bool
-is_taken file name = is_some (builtin_named name) || (same_name (codes "__name__") name || is_among (imported_names file) name)
+is_taken file name = is_some (builtin_named name) || (same_name name (codes "__name__") || is_among (imported_names file) name)
 
 -- the names of the `def`s
 abbrev pub function_names : File → List (List ℕ)
@@ -140,7 +141,7 @@ global_read file = uses_in_routines file (λ k u. not (is_call u.manner) && is_g
 
 -- whether a function has the decorator of this name
 abbrev pub has_mark : List ℕ → Func → Bool
-has_mark name f = list_any (λ m. same_name name m.1) f.marks
+has_mark name f = list_any (λ m. same_name m.1 name) f.marks
 
 -- whether a function is `@functional`
 abbrev pub is_functional : Func → Bool
@@ -234,11 +235,24 @@ is_head (item.Import line from names) = true
 is_head (item.Def f) = true
 is_head (item.Stmt s) = false
 
--- the line of a plain assignment of what isn't a literal
+-- whether an expression is a literal
+abbrev pub is_literal : Expr → Bool
+is_literal e = is_some (literal e)
+
+-- whether an assignment that is plain is of what isn't a literal
+abbrev pub assigns_computed : Option (List ℕ × Expr) → Bool
+assigns_computed None = false
+assigns_computed (Some a) = not (is_literal a.1)
+
+-- whether a statement is a plain assignment of what isn't a literal
+abbrev pub is_computed : Stmt → Bool
+is_computed s = assigns_computed (plain_assignment s)
+
+-- the line of such an assignment
 abbrev pub computed_line : Item → List ℕ
 computed_line (item.Import line from names) = []
 computed_line (item.Def f) = []
-computed_line (item.Stmt s) = line_if (is_plain s && not (is_some (literal_assignment s))) s.line
+computed_line (item.Stmt s) = line_if (is_computed s) s.line
 
 -- the lines of such assignments that have a `def` or import below them
 abbrev pub computed_above : List Item → List ℕ
@@ -255,35 +269,43 @@ mark_names = codes "schedule" ∷ codes "functional" ∷ []
 
 -- whether an import is of these names from `pydron`
 abbrev pub is_good_import : List ℕ → List (List ℕ) → Bool
-is_good_import from names = same_name (codes "pydron") from && list_all (is_among mark_names) names
+is_good_import from names = same_name from (codes "pydron") && list_all (is_among mark_names) names
 
--- the lines of a function's decorators that are unknown, repeated, or named by no import above
+-- the line of a decorator that is unknown, that no import above names, or that stands before on the same function
+abbrev pub bad_mark : List (List ℕ) → List (List ℕ) → ℕ × List ℕ → List ℕ
+bad_mark above before m = line_if (not (is_among mark_names m.1 && (is_among above m.1 && not (is_among before m.1)))) m.0
+
+-- the lines of a function's decorators that break the rule
 abbrev pub bad_marks : List (List ℕ) → List (List ℕ) → List (ℕ × List ℕ) → List ℕ
 bad_marks above before [] = []
-bad_marks above before (m ∷ ms) =
-    line_if (not (is_among mark_names m.1 && (is_among above m.1 && not (is_among before m.1)))) m.0
-    ++ bad_marks above (before ++ m.1 ∷ []) ms
+bad_marks above before (m ∷ ms) = bad_mark above before m ++ bad_marks above (before ++ m.1 ∷ []) ms
 
--- the lines of the decorators and imports that break the rule, from the names imported above
-abbrev pub bad_marks_from : List (List ℕ) → List Item → List ℕ
-bad_marks_from above [] = []
-bad_marks_from above (item.Import line from names ∷ is) = line_if (not (is_good_import from names)) line ++ bad_marks_from (above ++ names) is
-bad_marks_from above (item.Def f ∷ is) = bad_marks above [] f.marks ++ bad_marks_from above is
-bad_marks_from above (item.Stmt s ∷ is) = bad_marks_from above is
+-- the lines of an item's decorators that break the rule, or its line as an import, from the names imported above
+abbrev pub bad_in : List (List ℕ) → Item → List ℕ
+bad_in above (item.Import line from names) = line_if (not (is_good_import from names)) line
+bad_in above (item.Def f) = bad_marks above [] f.marks
+bad_in above (item.Stmt s) = []
+
+-- the lines of all such decorators and imports
+abbrev pub bad_from : List (List ℕ) → List Item → List ℕ
+bad_from above [] = []
+bad_from above (i ∷ is) = bad_in above i ++ bad_from (above ++ imports_in i) is
 
 -- rule 11: a decorator other than `schedule` and `functional`, the same twice on one `def`, or one that no import above names; an import from another module or of another name
 abbrev pub decorator : File → List ℕ
-decorator file = bad_marks_from [] file.items
+decorator file = bad_from [] file.items
 
 -- whether a name is repeated, where these names stand before
 abbrev pub is_repeating : List (List ℕ) → List (List ℕ) → Bool
 is_repeating before [] = false
 is_repeating before (n ∷ ns) = is_among before n || is_repeating (before ++ n ∷ []) ns
 
--- the line of a function that has a parameter's name twice
-abbrev pub twice_in : Func → List ℕ
-twice_in f = line_if (is_repeating [] (map (λ p. p.1) f.params)) f.line
+-- the line of a `def` that has a parameter's name twice
+abbrev pub twice_in : Item → List ℕ
+twice_in (item.Import line from names) = []
+twice_in (item.Def f) = line_if (is_repeating [] (map (λ p. p.1) f.params)) f.line
+twice_in (item.Stmt s) = []
 
 -- rule 12: a parameter's name occurs twice in one `def`
 abbrev pub twice_parameter : File → List ℕ
-twice_parameter file = flat_map twice_in (functions file)
+twice_parameter file = flat_map twice_in file.items

@@ -3,9 +3,10 @@ ghost use Rattle.std.specs.Prelude.{◌≡◌, map, option_map};
 ghost use Rattle.pyd_names.specs.Binding.{joined, or_empty};
 ghost use Rattle.pyd_scope.specs.Least.{least};
 ghost use Rattle.pyd_scope.specs.Leaving as spec;
+ghost use Rattle.pyd_scope.specs.Rules as rule;
 
 use crate::least::lesser;
-use pyd_tree::{Arm, Block, Stmt, What};
+use pyd_tree::{Arm, Block, File, Item, Stmt, What};
 
 /// What leaves a routine, or a turn of a loop.
 #[derive(Clone, Copy)]
@@ -72,5 +73,46 @@ fn jump_in_else(jump: Jump, otherwise: &Option<Block>) -> Option<u32>
     match otherwise {
         Some(body) => jump_in_block(jump, body),
         None => None,
+    }
+}
+
+/// The least line of a `return` in the module.
+pub fn return_outside(file: &File) -> Option<u32>
+    ensures { result ≡ least (rule.return_outside file.now) }
+{
+    let mut line = None;
+    for item in file.items.as_slice() {
+        line = lesser(line, returns_in_item(item));
+    }
+    line
+}
+
+fn returns_in_item(item: &Item) -> Option<u32>
+    ensures { result ≡ least (rule.returns_outside item.now) }
+{
+    match item {
+        Item::Import(_, _, _) | Item::Def(_) => None,
+        Item::Stmt(stmt) => least_jump(Jump::Return, stmt),
+    }
+}
+
+/// The least line of a `break` or `continue` in no loop.
+pub fn break_outside(file: &File) -> Option<u32>
+    ensures { result ≡ least (rule.break_outside file.now) }
+{
+    let mut line = None;
+    for item in file.items.as_slice() {
+        line = lesser(line, breaks_in_item(item));
+    }
+    line
+}
+
+fn breaks_in_item(item: &Item) -> Option<u32>
+    ensures { result ≡ least (rule.breaks_outside item.now) }
+{
+    match item {
+        Item::Import(_, _, _) => None,
+        Item::Def(func) => jump_in_block(Jump::Break, &func.body),
+        Item::Stmt(stmt) => least_jump(Jump::Break, stmt),
     }
 }

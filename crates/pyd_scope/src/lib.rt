@@ -2,12 +2,16 @@
 #![tactic(auto)]
 
 mod checks;
+mod heads;
 mod jumps;
 mod least;
+mod marks;
 mod names;
+mod parameters;
 mod program;
 mod refusal;
 mod routine;
+mod words;
 
 pub use checks::check;
 pub use program::Program;

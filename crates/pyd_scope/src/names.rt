@@ -77,4 +77,23 @@ impl Names {
             }
         }
     }
+
+    /// Puts names at the end.
+    pub fn add_all(&mut self, names: &[Text]) -> Result<(), NoMemory>
+        ensures { OnOk result (self.new ≡ self.old ++ names.now) }
+    {
+        for name in names {
+            self.add(name)?;
+        }
+        Ok(())
+    }
+
+    /// These names.
+    pub fn of(alloc: Global, names: &[Text]) -> Result<Names, NoMemory>
+        ensures { IfOk result (λ made. made ≡ names.now) }
+    {
+        let mut made = Names::new(alloc);
+        made.add_all(names)?;
+        Ok(made)
+    }
 }
