@@ -1,2 +1,4 @@
 pub mod Leasts
 pub mod Finding
+pub mod Counting
+pub mod Outsides

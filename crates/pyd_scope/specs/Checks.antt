@@ -1,29 +1,49 @@
 -- What `check` answers: the lowest-numbered rule that is broken with the least line that breaks it, else the program's parts.
-use Rattle.std.specs.Prelude.{ℕ, List, [], ◌∷◌, map, length, codes, Bool, true, false, Option, Some, None, option_map, Result, Ok, Err}
+use Rattle.std.specs.Prelude.{ℕ, List, [], ◌∷◌, ◌++◌, Option, Some, None, option_map, Result, Ok, Err}
 use Rattle.pyd_value.specs.declared.value.Value.{Value}
 use Rattle.pyd_tree.specs.declared.file.File.{File}
-use Rattle.pyd_tree.specs.declared.file.Func.{Func}
-use Rattle.pyd_names.specs.Binding.{constants, functions, function_locals, module_variables}
+use Rattle.pyd_names.specs.Binding.{constants}
 use Rattle.pyd_scope.specs.declared.refusal.Refusal.{Refusal}
 use Rattle.pyd_scope.specs.declared.refusal.Refusal.TheVariants.{TwiceDefined, Rebind, FunctionValue, CallOfVariable, GlobalRead, Impure, ReturnOutside, BreakOutside, LateDef, NotConstant, Decorator, TwiceParameter}
 use Rattle.pyd_scope.specs.declared.routine.Routine.{Routine}
 use Rattle.pyd_scope.specs.Least.{least}
+use Rattle.pyd_scope.specs.Parts.{routines}
 use Rattle.pyd_scope.specs.Rules as rule
 
 -- the refusal by a rule that these lines break
 abbrev pub refused : (ℕ → Refusal) → List ℕ → Option Refusal
 refused by lines = option_map by (least lines)
 
--- what each rule says of a file, by the numbers of the rules
-abbrev pub refusals : File → List (Option Refusal)
-refusals file =
+-- one refusal, or else another
+abbrev pub or_else : Option Refusal → Option Refusal → Option Refusal
+or_else None other = other
+or_else (Some r) other = Some r
+
+-- the first refusal, if there is one
+abbrev pub first : List (Option Refusal) → Option Refusal
+first [] = None
+first (r ∷ rs) = or_else r (first rs)
+
+-- what the rules on bindings say of a file
+abbrev pub by_bindings : File → List (Option Refusal)
+by_bindings file =
     refused TwiceDefined (rule.twice_defined file)
     ∷ refused Rebind (rule.rebind file)
-    ∷ refused FunctionValue (rule.function_value file)
+    ∷ []
+
+-- what the rules on uses say
+abbrev pub by_uses : File → List (Option Refusal)
+by_uses file =
+    refused FunctionValue (rule.function_value file)
     ∷ refused CallOfVariable (rule.call_of_variable file)
     ∷ refused GlobalRead (rule.global_read file)
     ∷ refused Impure (rule.impure file)
-    ∷ refused ReturnOutside (rule.return_outside file)
+    ∷ []
+
+-- what the rules on statements and headers say
+abbrev pub by_statements : File → List (Option Refusal)
+by_statements file =
+    refused ReturnOutside (rule.return_outside file)
     ∷ refused BreakOutside (rule.break_outside file)
     ∷ refused LateDef (rule.late_def file)
     ∷ refused NotConstant (rule.not_constant file)
@@ -31,27 +51,13 @@ refusals file =
     ∷ refused TwiceParameter (rule.twice_parameter file)
     ∷ []
 
--- the first refusal, if there is one
-abbrev pub first : List (Option Refusal) → Option Refusal
-first [] = None
-first (Some r ∷ rs) = Some r
-first (None ∷ rs) = first rs
+-- what each rule says, by the numbers of the rules
+abbrev pub refusals : File → List (Option Refusal)
+refusals file = by_bindings file ++ (by_uses file ++ by_statements file)
 
 -- the refusal by the lowest-numbered rule that a file breaks
 abbrev pub refusal : File → Option Refusal
 refusal file = first (refusals file)
-
--- the module as a routine: unfolded and not pure, its slots being its variables
-abbrev pub module_routine : File → Routine
-module_routine file = record { name = codes "__main__"; line = 1; pure = false; unfolded = true; params = 0; slots = module_variables file }
-
--- a function as a routine: its slots are its parameters, and then the other names that it binds
-abbrev pub function_routine : Func → Routine
-function_routine f = record { name = f.name; line = f.line; pure = rule.is_functional f; unfolded = rule.has_mark (codes "schedule") f; params = length f.params; slots = function_locals f }
-
--- the module, and then the functions in text order
-abbrev pub routines : File → List Routine
-routines file = module_routine file ∷ map function_routine (functions file)
 
 -- a program's parts
 pub record Parts : Type 0 where

@@ -3,6 +3,10 @@ pub mod Least
 pub mod Jumps
 pub mod Leaving
 pub mod Rules
+pub mod Parts
 pub mod Checks
 pub mod Answers
 pub mod Places
+pub mod Once
+pub mod Standings
+pub mod UseRules

@@ -1,6 +1,6 @@
 -- The rules of scope, each as the lines that break it.
 use Rattle.std.specs.Prelude.{ℕ, suc, List, [], ◌∷◌, ◌++◌, map, codes, Bool, true, false, not, ◌&&◌, ◌||◌, if◌then◌else◌, Option, Some, None, is_some}
-use Rattle.std.specs.List.{filter, flat_map, list_any, list_all, enumerate_from}
+use Rattle.std.specs.List.{filter, flat_map, list_any, list_all}
 use Rattle.pyd_value.specs.declared.operator.Builtin.{Builtin}
 use Rattle.pyd_value.specs.declared.operator.Builtin.TheVariants as builtin
 use Rattle.pyd_tree.specs.declared.expression.Expr.{Expr}
@@ -19,6 +19,9 @@ use Rattle.pyd_names.specs.Binding as line
 use Rattle.pyd_names.specs.Resolution.{Resolution, resolved, builtin_named}
 use Rattle.pyd_names.specs.Resolution as resolution
 use Rattle.pyd_names.specs.Uses.{routine_uses}
+use Rattle.pyd_scope.specs.declared.standing.Standing.{Standing}
+use Rattle.pyd_scope.specs.declared.standing.Standing.TheVariants as standing
+use Rattle.pyd_scope.specs.declared.sightings.Sighting.{Sighting}
 use Rattle.pyd_scope.specs.Jumps.{returns, loose_breaks, breaks_in}
 
 -- the line, if it breaks the rule
@@ -49,9 +52,9 @@ definitions file = flat_map definition (lines file)
 abbrev pub twice_defined : File → List ℕ
 twice_defined file = repeats [] (definitions file)
 
--- whether no script may bind the name: it is a builtin's, `__name__`, or imported
-abbrev pub is_taken : File → List ℕ → Bool
-is_taken file name = is_some (builtin_named name) || (same_name name (codes "__name__") || is_among (imported_names file) name)
+-- whether no script with these imports may bind the name: it is a builtin's, `__name__`, or imported
+abbrev pub is_taken : List (List ℕ) → List ℕ → Bool
+is_taken imported name = is_some (builtin_named name) || (same_name name (codes "__name__") || is_among imported name)
 
 -- the names of the `def`s
 abbrev pub function_names : File → List (List ℕ)
@@ -60,84 +63,8 @@ function_names file = map (λ f. f.name) (functions file)
 -- rule 2: a `def`, a constant or a module statement binds a taken name, or a module statement binds a `def`'s
 abbrev pub rebind : File → List ℕ
 rebind file =
-    bound_where (is_taken file) (definitions file)
-    ++ bound_where (λ name. is_taken file name || is_among (function_names file) name) (module_bindings file)
-
--- the numbers of the routines: the module, and then the functions
-abbrev pub routines : File → List ℕ
-routines file = 0 ∷ map (λ p. p.0) (enumerate_from 1 (functions file))
-
--- the lines of the uses that the test is true of
-abbrev pub uses_where : (NameUse → Bool) → List NameUse → List ℕ
-uses_where test us = flat_map (λ u. line_if (test u) u.line) us
-
--- the lines of the uses that the test is true of, in each routine
-abbrev pub uses_in_routines : File → (ℕ → NameUse → Bool) → List ℕ
-uses_in_routines file test = flat_map (λ k. uses_where (test k) (routine_uses file k)) (routines file)
-
--- whether a name is called
-abbrev pub is_call : Manner → Bool
-is_call manner.Read = false
-is_call manner.Called = true
-is_call manner.Iterated = true
-
--- whether a builtin is misused: read, or `range` not called as the whole iterable of a `for`
-abbrev pub misuses_builtin : Builtin → Manner → Bool
-misuses_builtin b manner.Read = true
-misuses_builtin builtin.Print manner.Called = false
-misuses_builtin builtin.Len manner.Called = false
-misuses_builtin builtin.Abs manner.Called = false
-misuses_builtin builtin.Min manner.Called = false
-misuses_builtin builtin.Max manner.Called = false
-misuses_builtin builtin.Sum manner.Called = false
-misuses_builtin builtin.Str manner.Called = false
-misuses_builtin builtin.Repr manner.Called = false
-misuses_builtin builtin.Int manner.Called = false
-misuses_builtin builtin.Bool manner.Called = false
-misuses_builtin builtin.Range manner.Called = true
-misuses_builtin b manner.Iterated = false
-
--- whether a name is used as a value that has none: a `def` or a builtin that is read, an imported name, or a stray `range`
-abbrev pub is_no_value : Resolution → Manner → Bool
-is_no_value resolution.Local manner = false
-is_no_value (resolution.Constant v) manner = false
-is_no_value (resolution.Function k) manner = not (is_call manner)
-is_no_value resolution.Imported manner = true
-is_no_value (resolution.Builtin b) manner = misuses_builtin b manner
-is_no_value resolution.Variable manner = false
-is_no_value resolution.Unbound manner = false
-
--- rule 3: a `def` or a builtin is read, an imported name is read or called, or `range` is called but as the whole iterable of a `for`
-abbrev pub function_value : File → List ℕ
-function_value file = uses_in_routines file (λ k u. is_no_value (resolved file k u.name) u.manner)
-
--- whether a name stands for a variable: a local, a constant or a module variable
-abbrev pub is_variable : Resolution → Bool
-is_variable resolution.Local = true
-is_variable (resolution.Constant v) = true
-is_variable (resolution.Function k) = false
-is_variable resolution.Imported = false
-is_variable (resolution.Builtin b) = false
-is_variable resolution.Variable = true
-is_variable resolution.Unbound = false
-
--- rule 4: a called name stands for a local, a constant or a module variable
-abbrev pub call_of_variable : File → List ℕ
-call_of_variable file = uses_in_routines file (λ k u. is_call u.manner && is_variable (resolved file k u.name))
-
--- whether a name stands for a module variable seen from a function
-abbrev pub is_global : Resolution → Bool
-is_global resolution.Local = false
-is_global (resolution.Constant v) = false
-is_global (resolution.Function k) = false
-is_global resolution.Imported = false
-is_global (resolution.Builtin b) = false
-is_global resolution.Variable = true
-is_global resolution.Unbound = false
-
--- rule 5: in a function, a name that is read stands for a module variable
-abbrev pub global_read : File → List ℕ
-global_read file = uses_in_routines file (λ k u. not (is_call u.manner) && is_global (resolved file k u.name))
+    bound_where (is_taken (imported_names file)) (definitions file)
+    ++ bound_where (λ name. is_taken (imported_names file) name || is_among (function_names file) name) (module_bindings file)
 
 -- whether a function has the decorator of this name
 abbrev pub has_mark : List ℕ → Func → Bool
@@ -148,41 +75,136 @@ abbrev pub is_functional : Func → Bool
 is_functional f = has_mark (codes "functional") f
 
 -- whether a routine that is there is `@functional`
-abbrev pub is_pure_function : Option Func → Bool
-is_pure_function None = false
-is_pure_function (Some f) = is_functional f
+abbrev pub is_functional_routine : Option Func → Bool
+is_functional_routine None = false
+is_functional_routine (Some f) = is_functional f
 
--- whether a routine is pure; the module isn't
-abbrev pub is_pure : File → ℕ → Bool
-is_pure file k = is_pure_function (function file k)
+-- what a name stands for, as far as the rules ask: of a function, whether it is `@functional`
+abbrev pub standing_of : File → Resolution → Standing
+standing_of file resolution.Local = standing.Local
+standing_of file (resolution.Constant v) = standing.Constant
+standing_of file (resolution.Function k) = standing.Function (is_functional_routine (function file k))
+standing_of file resolution.Imported = standing.Imported
+standing_of file (resolution.Builtin b) = standing.Builtin b
+standing_of file resolution.Variable = standing.Variable
+standing_of file resolution.Unbound = standing.Unbound
 
--- whether a builtin prints
-abbrev pub prints : Builtin → Bool
-prints builtin.Print = true
-prints builtin.Len = false
-prints builtin.Abs = false
-prints builtin.Min = false
-prints builtin.Max = false
-prints builtin.Sum = false
-prints builtin.Str = false
-prints builtin.Repr = false
-prints builtin.Int = false
-prints builtin.Bool = false
-prints builtin.Range = false
+-- a use in a routine: its line, its manner, what the name stands for, and whether the routine is `@functional`
+abbrev pub sighting : File → ℕ → NameUse → Sighting
+sighting file k u = record { line = u.line; manner = u.manner; standing = standing_of file (resolved file k u.name); functional = is_functional_routine (function file k) }
 
--- whether a call of what a name stands for may print
-abbrev pub is_impure : File → Resolution → Bool
-is_impure file resolution.Local = false
-is_impure file (resolution.Constant v) = false
-is_impure file (resolution.Function k) = not (is_pure file k)
-is_impure file resolution.Imported = false
-is_impure file (resolution.Builtin b) = prints b
-is_impure file resolution.Variable = false
-is_impure file resolution.Unbound = false
+-- the uses in a routine
+abbrev pub sightings_in : File → ℕ → List Sighting
+sightings_in file k = map (sighting file k) (routine_uses file k)
+
+-- the numbers of some functions, of which this many stand before
+abbrev pub numbers_from : ℕ → List Func → List ℕ
+numbers_from n [] = []
+numbers_from n (f ∷ fs) = suc n ∷ numbers_from (suc n) fs
+
+-- the uses in the module, and then those in each function
+abbrev pub sightings : File → List Sighting
+sightings file = sightings_in file 0 ++ flat_map (sightings_in file) (numbers_from 0 (functions file))
+
+-- the lines of the uses that the test is true of
+abbrev pub seen_where : (Sighting → Bool) → List Sighting → List ℕ
+seen_where test ss = flat_map (λ s. line_if (test s) s.line) ss
+
+-- whether a name is called
+abbrev pub is_call : Manner → Bool
+is_call manner.Read = false
+is_call manner.Called = true
+is_call manner.Iterated = true
+
+-- whether a builtin is `range`
+abbrev pub is_range : Builtin → Bool
+is_range builtin.Print = false
+is_range builtin.Len = false
+is_range builtin.Abs = false
+is_range builtin.Min = false
+is_range builtin.Max = false
+is_range builtin.Sum = false
+is_range builtin.Str = false
+is_range builtin.Repr = false
+is_range builtin.Int = false
+is_range builtin.Bool = false
+is_range builtin.Range = true
+
+-- whether a builtin is misused: it is read, or it is `range` and not called as the whole iterable of a `for`
+abbrev pub misuses : Builtin → Manner → Bool
+misuses b manner.Read = true
+misuses b manner.Called = is_range b
+misuses b manner.Iterated = false
+
+-- whether a name is used so that stands for no value
+abbrev pub is_no_value : Standing → Manner → Bool
+is_no_value standing.Local m = false
+is_no_value standing.Constant m = false
+is_no_value (standing.Function functional) m = not (is_call m)
+is_no_value standing.Imported m = true
+is_no_value (standing.Builtin b) m = misuses b m
+is_no_value standing.Variable m = false
+is_no_value standing.Unbound m = false
+
+-- rule 3: a `def` or a builtin is read, an imported name is read or called, or `range` is called but as the whole iterable of a `for`
+abbrev pub function_value : File → List ℕ
+function_value file = seen_where (λ s. is_no_value s.standing s.manner) (sightings file)
+
+-- whether a name stands for a local, a constant or a module variable
+abbrev pub is_variable : Standing → Bool
+is_variable standing.Local = true
+is_variable standing.Constant = true
+is_variable (standing.Function functional) = false
+is_variable standing.Imported = false
+is_variable (standing.Builtin b) = false
+is_variable standing.Variable = true
+is_variable standing.Unbound = false
+
+-- rule 4: a called name stands for a local, a constant or a module variable
+abbrev pub call_of_variable : File → List ℕ
+call_of_variable file = seen_where (λ s. is_call s.manner && is_variable s.standing) (sightings file)
+
+-- whether a name stands for a module variable seen from a function
+abbrev pub is_global : Standing → Bool
+is_global standing.Local = false
+is_global standing.Constant = false
+is_global (standing.Function functional) = false
+is_global standing.Imported = false
+is_global (standing.Builtin b) = false
+is_global standing.Variable = true
+is_global standing.Unbound = false
+
+-- rule 5: in a function, a name that is read stands for a module variable
+abbrev pub global_read : File → List ℕ
+global_read file = seen_where (λ s. not (is_call s.manner) && is_global s.standing) (sightings file)
+
+-- whether a builtin is `print`
+abbrev pub is_print : Builtin → Bool
+is_print builtin.Print = true
+is_print builtin.Len = false
+is_print builtin.Abs = false
+is_print builtin.Min = false
+is_print builtin.Max = false
+is_print builtin.Sum = false
+is_print builtin.Str = false
+is_print builtin.Repr = false
+is_print builtin.Int = false
+is_print builtin.Bool = false
+is_print builtin.Range = false
+
+-- whether a call may print: of `print`, or of a function that isn't `@functional`
+abbrev pub may_print : Standing → Bool
+may_print standing.Local = false
+may_print standing.Constant = false
+may_print (standing.Function functional) = not functional
+may_print standing.Imported = false
+may_print (standing.Builtin b) = is_print b
+may_print standing.Variable = false
+may_print standing.Unbound = false
 
 -- rule 6: in a `@functional` body, a call of `print` or of a `def` that isn't `@functional`
 abbrev pub impure : File → List ℕ
-impure file = uses_in_routines file (λ k u. is_pure file k && (is_call u.manner && is_impure file (resolved file k u.name)))
+impure file = seen_where (λ s. s.functional && (is_call s.manner && may_print s.standing)) (sightings file)
 
 -- the `return`s of an item that stand in the module
 abbrev pub returns_outside : Item → List ℕ

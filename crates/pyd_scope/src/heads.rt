@@ -1,13 +1,11 @@
 //! Where `def`s, imports and constants stand among the lines of a module.
-ghost use Rattle.std.specs.Prelude.{◌≡◌, [], IfOk, if◌then◌else◌};
+ghost use Rattle.std.specs.Prelude.{◌≡◌, [], if◌then◌else◌};
 ghost use Rattle.pyd_scope.specs.Least.{least};
 ghost use Rattle.pyd_scope.specs.Rules as rule;
 
 use crate::least::lesser;
-use pyd_names::{is_string_line, literal, plain_assignment};
-use pyd_tree::{Expr, File, Item, Stmt};
-use pyd_value::NoMemory;
-use std::alloc::Global;
+use pyd_names::{is_literal, is_string_line, plain_assignment};
+use pyd_tree::{File, Item, Stmt};
 
 /// The least line of a `def` or import that has before it an item that isn't a string line, an
 /// import, a `def` or a plain assignment.
@@ -46,8 +44,8 @@ fn defs_may_follow(item: &Item) -> bool
 }
 
 /// The least line of a plain assignment of what isn't a literal that has a `def` or import below it.
-pub fn not_constant(alloc: Global, file: &File) -> Result<Option<u32>, NoMemory>
-    ensures { IfOk result (λ line. line ≡ least (rule.not_constant file.now)) }
+pub fn not_constant(file: &File) -> Option<u32>
+    ensures { result ≡ least (rule.not_constant file.now) }
 {
     let mut above = None;
     let mut line = None;
@@ -56,10 +54,10 @@ pub fn not_constant(alloc: Global, file: &File) -> Result<Option<u32>, NoMemory>
             line = lesser(line, above);
             above = None;
         } else {
-            above = lesser(above, computed_line(alloc, item)?);
+            above = lesser(above, computed_line(item));
         }
     }
-    Ok(line)
+    line
 }
 
 fn is_head(item: &Item) -> bool
@@ -72,38 +70,20 @@ fn is_head(item: &Item) -> bool
 }
 
 /// The line of a plain assignment of what isn't a literal.
-fn computed_line(alloc: Global, item: &Item) -> Result<Option<u32>, NoMemory>
-    ensures { IfOk result (λ line. line ≡ least (rule.computed_line item.now)) }
+fn computed_line(item: &Item) -> Option<u32>
+    ensures { result ≡ least (rule.computed_line item.now) }
 {
     match item {
-        Item::Import(_, _, _) | Item::Def(_) => Ok(None),
-        Item::Stmt(stmt) => {
-            if is_computed(alloc, stmt)? {
-                Ok(Some(stmt.line))
-            } else {
-                Ok(None)
-            }
-        }
+        Item::Stmt(stmt) if is_computed(stmt) => Some(stmt.line),
+        Item::Import(_, _, _) | Item::Def(_) | Item::Stmt(_) => None,
     }
 }
 
-fn is_computed(alloc: Global, stmt: &Stmt) -> Result<bool, NoMemory>
-    ensures { IfOk result (λ r. r ≡ rule.is_computed stmt.now) }
+fn is_computed(stmt: &Stmt) -> bool
+    ensures { result ≡ rule.is_computed stmt.now }
 {
     match plain_assignment(stmt) {
-        None => Ok(false),
-        Some((_, right)) => Ok(!is_literal(alloc, right)?),
-    }
-}
-
-fn is_literal(alloc: Global, expr: &Expr) -> Result<bool, NoMemory>
-    ensures { IfOk result (λ r. r ≡ rule.is_literal expr.now) }
-{
-    match literal(alloc, expr)? {
-        None => Ok(false),
-        Some(value) => {
-            drop(value);
-            Ok(true)
-        }
+        None => false,
+        Some((_, right)) => !is_literal(right),
     }
 }

@@ -2,15 +2,20 @@
 #![tactic(auto)]
 
 mod checks;
+mod definitions;
 mod heads;
 mod jumps;
 mod least;
 mod marks;
 mod names;
+mod once;
 mod parameters;
 mod program;
 mod refusal;
+mod refusals;
 mod routine;
+mod sightings;
+mod standing;
 mod words;
 
 pub use checks::check;

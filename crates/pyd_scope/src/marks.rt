@@ -45,11 +45,7 @@ fn bad_in(alloc: Global, above: &Names, item: &Item) -> Result<Option<u32>, NoMe
 }
 
 /// The least line of a decorator that is unknown, repeated, or named by no import above.
-fn bad_marks(
-    alloc: Global,
-    above: &Names,
-    marks: &[(u32, Text)],
-) -> Result<Option<u32>, NoMemory>
+fn bad_marks(alloc: Global, above: &Names, marks: &[(u32, Text)]) -> Result<Option<u32>, NoMemory>
     ensures { IfOk result (λ line. line ≡ least (rule.bad_marks above.now [] marks.now)) }
 {
     let mut before = Names::new(alloc);

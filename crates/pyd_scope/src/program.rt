@@ -3,6 +3,7 @@ ghost use Rattle.std.specs.Prelude.{◌≡◌, None};
 ghost use Rattle.pyd_names.specs.WellFormed.{IsWellFormed};
 ghost use Rattle.pyd_names.specs.Binding as names;
 ghost use Rattle.pyd_scope.specs.Checks as spec;
+ghost use Rattle.pyd_scope.specs.Parts as parts;
 
 use crate::Routine;
 use pyd_tree::File;
@@ -19,6 +20,6 @@ pub struct Program {
     pub constants: List<(Text, Value)>,
     ghost well_formed: { IsWellFormed file },
     ghost accepted: { spec.refusal file ≡ None },
-    ghost its_routines: { routines ≡ spec.routines file },
+    ghost its_routines: { routines ≡ parts.routines file },
     ghost its_constants: { constants ≡ names.constants file },
 }
