@@ -2,3 +2,4 @@ pub mod Leasts
 pub mod Finding
 pub mod Counting
 pub mod Outsides
+pub mod Firsts

@@ -40,16 +40,25 @@ by_uses file =
     ∷ refused Impure (rule.impure file)
     ∷ []
 
--- what the rules on statements and headers say
-abbrev pub by_statements : File → List (Option Refusal)
-by_statements file =
+-- what the rules on places of statements say
+abbrev pub by_places : File → List (Option Refusal)
+by_places file =
     refused ReturnOutside (rule.return_outside file)
     ∷ refused BreakOutside (rule.break_outside file)
     ∷ refused LateDef (rule.late_def file)
     ∷ refused NotConstant (rule.not_constant file)
-    ∷ refused Decorator (rule.decorator file)
+    ∷ []
+
+-- what the rules on the heads of functions say
+abbrev pub by_heads : File → List (Option Refusal)
+by_heads file =
+    refused Decorator (rule.decorator file)
     ∷ refused TwiceParameter (rule.twice_parameter file)
     ∷ []
+
+-- what the rules on statements and heads say
+abbrev pub by_statements : File → List (Option Refusal)
+by_statements file = by_places file ++ by_heads file
 
 -- what each rule says, by the numbers of the rules
 abbrev pub refusals : File → List (Option Refusal)

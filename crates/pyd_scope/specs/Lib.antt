@@ -5,6 +5,7 @@ pub mod Leaving
 pub mod Rules
 pub mod Parts
 pub mod Checks
+pub mod ByRule
 pub mod Answers
 pub mod Places
 pub mod Once
