@@ -22,3 +22,6 @@ pub use checks::check;
 pub use program::Program;
 pub use refusal::{CheckStop, Refusal};
 pub use routine::Routine;
+
+#[cfg(test)]
+mod tests;

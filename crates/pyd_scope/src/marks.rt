@@ -32,8 +32,8 @@ fn bad_in(alloc: Global, above: &Names, item: &Item) -> Result<Option<u32>, NoMe
     ensures { IfOk result (λ line. line ≡ least (rule.bad_in above.now item.now)) }
 {
     match item {
-        Item::Import(line, module, names) => {
-            if is_good_import(module, names.as_slice()) {
+        Item::Import(line, source, names) => {
+            if is_good_import(source, names.as_slice()) {
                 Ok(None)
             } else {
                 Ok(Some(*line))
@@ -68,10 +68,10 @@ fn bad_mark(above: &Names, before: &Names, mark: &(u32, Text)) -> Option<u32>
 }
 
 /// Whether an import is from `pydron`, of names that it has.
-fn is_good_import(module: &Text, names: &[Text]) -> bool
-    ensures { result ≡ rule.is_good_import module.now names.now }
+fn is_good_import(source: &Text, names: &[Text]) -> bool
+    ensures { result ≡ rule.is_good_import source.now names.now }
 {
-    is_word(module, "pydron") && are_marks(names)
+    is_word(source, "pydron") && are_marks(names)
 }
 
 fn are_marks(names: &[Text]) -> bool
