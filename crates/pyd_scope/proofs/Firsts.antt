@@ -1,5 +1,5 @@
 -- The first of some refusals.
-use Rattle.std.proofs.Common.{◌≡◌, ℕ, suc, zero, ◌+◌, ◌<◌, ◌≤◌, ◌^◌, ◌||◌, List, [], ◌∷◌, ◌++◌, map, length, get_or, Option, Some, None, refl, ap, sym, ◌∙◌, arith}
+use Rattle.std.proofs.Common.{◌≡◌, ℕ, suc, zero, ◌<◌, ◌≤◌, ◌||◌, List, [], ◌∷◌, ◌++◌, map, length, get_or, Option, Some, None, refl, ap, sym, ◌∙◌, arith}
 use Rattle.pyd_value.specs.Size.{total}
 use Rattle.pyd_tree.specs.declared.file.File.{File}
 use Rattle.pyd_tree.specs.declared.file.Item.{Item}

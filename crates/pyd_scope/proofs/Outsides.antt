@@ -1,7 +1,7 @@
 -- What names stand for by the names of a file is what they are resolved to.
-use Rattle.std.proofs.Common.{◌≡◌, ℕ, zero, suc, ◌+◌, ◌≤◌, List, [], ◌∷◌, ◌++◌, map, take, length, Bool, true, false, ◌||◌, cond, if◌then◌else◌, Option, Some, None, is_some, refl, ap, sym, ◌∙◌, arith, subst, Bor, add-one}
+use Rattle.std.proofs.Common.{◌≡◌, ℕ, zero, suc, ◌+◌, ◌≤◌, List, [], ◌∷◌, ◌++◌, map, take, length, Bool, true, false, ◌||◌, cond, if◌then◌else◌, Option, Some, None, is_some, refl, ap, sym, ◌∙◌, arith, Bor}
 use Rattle.std.specs.Prelude.{option_map}
-use Rattle.std.specs.List.{slice_get, flat_map, list_any, position_from}
+use Rattle.std.specs.List.{slice_get, flat_map, position_from}
 use Rattle.std.specs.Map.{lookup}
 use Rattle.std.proofs.lemmas.List.{take_all}
 use Rattle.pyd_value.specs.declared.value.Value.{Value}
@@ -9,7 +9,7 @@ use Rattle.pyd_value.specs.declared.operator.Builtin.{Builtin}
 use Rattle.pyd_tree.specs.declared.file.File.{File}
 use Rattle.pyd_tree.specs.declared.file.Func.{Func}
 use Rattle.pyd_names.specs.declared.name_use.NameUse.{NameUse}
-use Rattle.pyd_names.specs.Binding.{same_name, is_among, constants, functions, imported_names, module_variables, function_locals, locals_in, function}
+use Rattle.pyd_names.specs.Binding.{same_name, is_among, constants, functions, imported_names, module_variables, function_locals, locals_in}
 use Rattle.pyd_names.specs.Resolution.{Resolution, constant_named, function_named, builtin_named, constant_or, function_or, builtin_or, variable_or_unbound, resolved_outside}
 use Rattle.pyd_names.specs.Resolution as resolution
 use Rattle.pyd_names.specs.Uses.{uses, uses_in, module_uses}
@@ -18,7 +18,7 @@ use Rattle.pyd_scope.specs.declared.standing.Standing.TheVariants as standing
 use Rattle.pyd_scope.specs.declared.standing.Outside.{Outside}
 use Rattle.pyd_scope.specs.declared.sightings.Sighting.{Sighting}
 use Rattle.pyd_scope.specs.Places.{place}
-use Rattle.pyd_scope.specs.Rules.{is_functional, is_functional_routine, function_names, standing_of, sighting, sightings_in, numbers_from, sightings}
+use Rattle.pyd_scope.specs.Rules.{is_functional, is_functional_routine, function_names, standing_of, sightings_in, numbers_from, sightings}
 use Rattle.pyd_scope.specs.Standings.{IsOutside, variable_standing, builtin_standing, function_standing, or_false, standing_outside, standing_in, sighting_in, function_sightings}
 
 -- a name is among keys where it is looked up

@@ -1,5 +1,5 @@
 -- When `check` stops.
-use Rattle.std.specs.Prelude.{◌≡◌, Result, Err}
+use Rattle.std.specs.Prelude.{◌≡◌, Err}
 use Rattle.pyd_tree.specs.declared.file.File.{File}
 use Rattle.pyd_scope.specs.declared.refusal.CheckStop.{CheckStop}
 use Rattle.pyd_scope.specs.declared.refusal.CheckStop.TheVariants.{Refused, NoMemory}

@@ -1,5 +1,5 @@
 -- The parts of a program.
-use Rattle.std.specs.Prelude.{ℕ, List, [], ◌∷◌, length, codes, true, false}
+use Rattle.std.specs.Prelude.{List, [], ◌∷◌, length, codes, true, false}
 use Rattle.std.specs.List.{flat_map}
 use Rattle.pyd_tree.specs.declared.file.File.{File}
 use Rattle.pyd_tree.specs.declared.file.Func.{Func}

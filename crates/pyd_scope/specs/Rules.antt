@@ -1,6 +1,6 @@
 -- The rules of scope, each as the lines that break it.
 use Rattle.std.specs.Prelude.{ℕ, suc, List, [], ◌∷◌, ◌++◌, map, codes, Bool, true, false, not, ◌&&◌, ◌||◌, if◌then◌else◌, Option, Some, None, is_some}
-use Rattle.std.specs.List.{filter, flat_map, list_any, list_all}
+use Rattle.std.specs.List.{flat_map, list_any, list_all}
 use Rattle.pyd_value.specs.declared.operator.Builtin.{Builtin}
 use Rattle.pyd_value.specs.declared.operator.Builtin.TheVariants as builtin
 use Rattle.pyd_tree.specs.declared.expression.Expr.{Expr}

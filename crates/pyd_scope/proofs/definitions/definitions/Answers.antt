@@ -1,11 +1,11 @@
-use Rattle.std.proofs.Common.{◌≡◌, ℕ, List, [], ◌++◌, Bool, not, ◌&&◌, true, drop, length, ◌≤◌, ◌∙◌, ap, sym}
+use Rattle.std.proofs.Common.{◌≡◌, ℕ, List, ◌++◌, Bool, not, ◌&&◌, true, drop, length, ◌≤◌, ◌∙◌, ap, sym}
 use Rattle.std.specs.List.{flat_map}
 use Rattle.std.proofs.lemmas.List.{append-nil}
 use Rattle.std.proofs.Math.ListN.{drop_of_length-le}
 use Rattle.pyd_tree.specs.declared.file.Item.{Item}
 use Rattle.pyd_names.specs.Binding as names
 use Rattle.pyd_names.specs.declared.binding.Binding.{Binding}
-use Rattle.pyd_scope.specs.Once.{has_once, repeated}
+use Rattle.pyd_scope.specs.Once.{has_once}
 use Rattle.pyd_scope.specs.Rules as rule
 use Rattle.pyd_scope.proofs.Counting.{once_tells}
 use Rattle.pyd_scope.proofs.definitions.definitions.Goals as goal

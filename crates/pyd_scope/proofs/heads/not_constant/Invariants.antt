@@ -1,4 +1,4 @@
-use Rattle.std.proofs.Common.{◌≡◌, drop, true, None, cond}
+use Rattle.std.proofs.Common.{◌≡◌, drop, None, cond}
 use Rattle.std.specs.List.{list_any}
 use Rattle.pyd_scope.specs.Least.{least, lesser}
 use Rattle.pyd_scope.specs.Rules as rule

@@ -1,5 +1,5 @@
-use Rattle.std.proofs.Common.{rules, ◌≡◌, ℕ, List, map, ◌∙◌, sym, ap, arith, ◌<◌, length}
-use Rattle.pyd_names.specs.Binding.{joined, or_empty}
+use Rattle.std.proofs.Common.{rules, ◌≡◌, ℕ, List, map, ◌∙◌, sym, ap}
+use Rattle.pyd_names.specs.Binding.{joined}
 use Rattle.pyd_tree.specs.declared.statement.What.{the_lemmas}
 use Rattle.pyd_tree.specs.declared.statement.Block.{Block, out-Block, fold_out-Block}
 use Rattle.pyd_tree.specs.declared.statement.Arm.{Arm, out-Arm, fold_out-Arm}

@@ -1,4 +1,4 @@
-use Rattle.std.proofs.Common.{◌≡◌, ℕ, List, [], ◌∷◌, ◌++◌, ◌+◌, drop, Option, ◌∙◌, ap, sym}
+use Rattle.std.proofs.Common.{ℕ, List, ◌++◌, ◌+◌, drop, ◌∙◌, ap, sym}
 use Rattle.pyd_tree.specs.declared.file.Item.{Item}
 use Rattle.pyd_names.specs.Binding.{imports_in}
 use Rattle.pyd_scope.specs.Least.{least, lesser}

@@ -1,4 +1,4 @@
-use Rattle.std.proofs.Common.{◌≡◌, ℕ, List, take, drop, map, []}
+use Rattle.std.proofs.Common.{◌≡◌, drop, map, []}
 use Rattle.pyd_scope.specs.Rules as rule
 use Rattle.pyd_scope.proofs.parameters.is_repeating.Given as goal
 

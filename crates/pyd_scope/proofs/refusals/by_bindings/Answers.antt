@@ -1,4 +1,4 @@
-use Rattle.std.proofs.Common.{◌≡◌, ℕ, List, [], ◌++◌, Option, None, ◌∙◌, ap, sym, refl}
+use Rattle.std.proofs.Common.{List, [], None, ◌∙◌, ap, refl}
 use Rattle.std.specs.Prelude.{option_map}
 use Rattle.pyd_names.specs.declared.binding.Binding.{Binding}
 use Rattle.pyd_scope.specs.declared.refusals.Rule.TheVariants as rules

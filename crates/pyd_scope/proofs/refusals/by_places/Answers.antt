@@ -1,4 +1,4 @@
-use Rattle.std.proofs.Common.{◌≡◌, ℕ, List, [], ◌++◌, Option, None, ◌∙◌, ap, sym, refl}
+use Rattle.std.proofs.Common.{None, ◌∙◌, ap, refl}
 use Rattle.std.specs.Prelude.{option_map}
 use Rattle.pyd_scope.specs.declared.refusals.Rule.TheVariants as rules
 use Rattle.pyd_scope.specs.ByRule.{at_line}

@@ -1,5 +1,4 @@
-use Rattle.std.proofs.Common.{◌≡◌, ℕ, List, [], ◌++◌, Option, None, ◌∙◌, ap, sym, refl}
-use Rattle.std.specs.Prelude.{option_map}
+use Rattle.std.proofs.Common.{List, ◌∙◌, ap}
 use Rattle.pyd_scope.specs.declared.sightings.Sighting.{Sighting}
 use Rattle.pyd_scope.specs.ByRule.{misused}
 use Rattle.pyd_scope.proofs.refusals.by_uses.Goals as goal

@@ -1,5 +1,4 @@
-use Rattle.std.proofs.Common.{◌≡◌, ℕ, List, [], ◌++◌, Option, None, ◌∙◌, ap, sym, refl}
-use Rattle.std.specs.Prelude.{option_map}
+use Rattle.std.proofs.Common.{◌∙◌}
 use Rattle.pyd_scope.proofs.Firsts.{rebind_is}
 use Rattle.pyd_scope.proofs.refusals.rebind.Goals as goal
 

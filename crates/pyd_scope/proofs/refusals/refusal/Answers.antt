@@ -1,5 +1,4 @@
-use Rattle.std.proofs.Common.{◌≡◌, ℕ, List, [], ◌++◌, Option, None, ◌∙◌, ap, sym, refl}
-use Rattle.std.specs.Prelude.{option_map}
+use Rattle.std.proofs.Common.{◌++◌, ◌∙◌, sym}
 use Rattle.pyd_scope.specs.Checks as spec
 use Rattle.pyd_scope.proofs.Firsts.{both, first-append}
 use Rattle.pyd_scope.proofs.refusals.refusal.Goals as goal

@@ -1,4 +1,4 @@
-use Rattle.std.proofs.Common.{◌≡◌, List, map, ◌++◌, ◌∙◌, ap, Bor, false}
+use Rattle.std.proofs.Common.{List, map, ◌++◌, ◌∙◌, ap, Bor, false}
 use Rattle.pyd_tree.specs.declared.file.Func.{Func}
 use Rattle.pyd_scope.specs.declared.sightings.Sighting.{Sighting}
 use Rattle.pyd_scope.specs.Standings.{sighting_in}

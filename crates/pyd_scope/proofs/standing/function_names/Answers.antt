@@ -1,8 +1,7 @@
-use Rattle.std.proofs.Common.{◌≡◌, List, map, take, ◌∙◌, ap, Bor}
+use Rattle.std.proofs.Common.{List, map, ◌∙◌, ap, Bor}
 use Rattle.std.proofs.lemmas.List.{take_all}
 use Rattle.pyd_tree.specs.declared.file.Func.{Func}
 use Rattle.pyd_names.specs.Binding.{functions}
-use Rattle.pyd_scope.specs.Rules as rule
 use Rattle.pyd_scope.proofs.Outsides.{map-now}
 use Rattle.pyd_scope.proofs.standing.function_names.Goals as goal
 

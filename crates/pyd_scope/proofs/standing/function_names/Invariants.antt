@@ -1,6 +1,5 @@
 use Rattle.std.proofs.Common.{◌≡◌, map, take, Bor}
 use Rattle.pyd_tree.specs.declared.file.Func.{Func}
-use Rattle.pyd_scope.specs.Rules as rule
 use Rattle.pyd_scope.proofs.standing.function_names.Given as goal
 
 abbrev pub invariant-loop-func : goal.invariant-loop-func

@@ -1,4 +1,4 @@
-use Rattle.std.proofs.Common.{◌≡◌, List, map, take, ◌∙◌, ap, Bor}
+use Rattle.std.proofs.Common.{List, map, ◌∙◌, ap, Bor}
 use Rattle.std.proofs.lemmas.List.{take_all}
 use Rattle.pyd_tree.specs.declared.file.Func.{Func}
 use Rattle.pyd_names.specs.Binding.{functions}

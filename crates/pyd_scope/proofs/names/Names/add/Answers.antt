@@ -1,7 +1,4 @@
-use Rattle.std.proofs.Common.{◌≡◌, ◌∙◌, ◌++◌, ◌∷◌, [], ap, sym, ℕ, List, Bool, true, false, length, cond, Some, Option}
-use Rattle.std.specs.BTreeMap.{is_at}
-use Rattle.std.specs.Ordering.{nat_cmp}
-use Rattle.std.specs.Cmp.Lexicographic.{slice_cmp}
+use Rattle.std.proofs.Common.{◌≡◌, ◌∙◌, ◌++◌, ◌∷◌, [], ap, sym, ℕ, List, true, false, length}
 use Rattle.pyd_names.specs.Binding.{is_among}
 use Rattle.pyd_scope.specs.Places as spec
 use Rattle.pyd_scope.proofs.Finding.{place-again, place-grown}
