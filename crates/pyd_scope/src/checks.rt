@@ -18,7 +18,8 @@ use std::alloc::Global;
 pub fn check(alloc: Global, file: File) -> Result<Program, CheckStop>
     requires { IsWellFormed file }
     ensures file { IfOk result (λ p. p.file ≡ file) }
-    ensures ok { IfOk result (λ p. spec.answer file ≡ Ok (record { routines = p.routines; constants = p.constants })) }
+    ensures ok { IfOk result (λ p.
+        spec.answer file ≡ Ok (record { routines = p.routines; constants = p.constants })) }
     ensures refused { IfErr result (IsStop file) }
 {
     match refusal(alloc, &file) {

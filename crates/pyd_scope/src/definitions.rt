@@ -36,7 +36,8 @@ fn add_definition(
     item: &Item,
     out: &mut List<Binding>,
 ) -> Result<(), NoMemory>
-    ensures { OnOk result (out.new ≡ out.old ++ rule.definition (names.line_of (has_once once.now) early item.now)) }
+    ensures { OnOk result (out.new ≡ out.old
+        ++ rule.definition (names.line_of (has_once once.now) early item.now)) }
 {
     match item {
         Item::Import(_, _, _) => Ok(()),
@@ -50,7 +51,8 @@ fn add_definition(
 
 /// The name of the constant that a statement is, or none.
 fn constant_name<'a>(once: &Once, early: bool, stmt: &'a Stmt) -> Option<&'a Text>
-    ensures { option_map (λ n. n.now) result ≡ spec.constant_name (has_once once.now) early stmt.now }
+    ensures { option_map (λ n. n.now) result
+        ≡ spec.constant_name (has_once once.now) early stmt.now }
 {
     match plain_assignment(stmt) {
         Some((name, right)) if early && once.has(name) && is_literal(right) => Some(name),
@@ -94,7 +96,8 @@ pub fn taken_line(imported: &Names, bindings: &[Binding]) -> Option<u32>
 
 /// The least line of a binding of a name that no module statement may bind.
 pub fn rebound_line(imported: &Names, functions: &Names, bindings: &[Binding]) -> Option<u32>
-    ensures { result ≡ least (rule.bound_where (λ n. rule.is_taken imported.now n || names.is_among functions.now n) bindings.now) }
+    ensures { result ≡ least (rule.bound_where
+        (λ n. rule.is_taken imported.now n || names.is_among functions.now n) bindings.now) }
 {
     let mut line = None;
     for binding in bindings {

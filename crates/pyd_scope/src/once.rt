@@ -20,7 +20,8 @@ impl Once {
     /// Tells of each name whether the statements of a module bind it once.
     pub fn of(alloc: Global, file: &File) -> Result<Once, NoMemory>
         ensures bound { IfOk result (λ once. once.bound ≡ names.statement_names file.now) }
-        ensures again { IfOk result (λ once. once.again ≡ spec.repeated [] (names.statement_names file.now)) }
+        ensures again { IfOk result (λ once.
+            once.again ≡ spec.repeated [] (names.statement_names file.now)) }
     {
         let all = statement_names(alloc, file)?;
         let mut bound = Names::new(alloc);

@@ -63,7 +63,8 @@ fn add_function(
     func: &Func,
     out: &mut Vec<Sighting>,
 ) -> Result<(), NoMemory>
-    ensures { OnOk result (out.new.items ≡ out.old.items ++ spec.function_sightings outside.now func.now) }
+    ensures { OnOk result (out.new.items
+        ≡ out.old.items ++ spec.function_sightings outside.now func.now) }
 {
     let locals = function_locals(alloc, func)?;
     let locals = Names::of(alloc, locals.as_slice())?;
@@ -78,7 +79,8 @@ fn add_sightings(
     uses: &[NameUse],
     out: &mut Vec<Sighting>,
 ) -> Result<(), NoMemory>
-    ensures { OnOk result (out.new.items ≡ out.old.items ++ map (spec.sighting_in outside.now locals.now functional) uses.now) }
+    ensures { OnOk result (out.new.items
+        ≡ out.old.items ++ map (spec.sighting_in outside.now locals.now functional) uses.now) }
 {
     for name_use in uses {
         out.push(Sighting {
