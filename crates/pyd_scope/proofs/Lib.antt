@@ -1,0 +1,5 @@
+pub mod Leasts
+pub mod Finding
+pub mod Counting
+pub mod Outsides
+pub mod Firsts

@@ -1,0 +1,13 @@
+pub mod Numbers
+pub mod Least
+pub mod Jumps
+pub mod Leaving
+pub mod Rules
+pub mod Parts
+pub mod Checks
+pub mod ByRule
+pub mod Answers
+pub mod Places
+pub mod Once
+pub mod Standings
+pub mod UseRules

@@ -1,0 +1,27 @@
+//! The rules of scope: which files are accepted, and the program that an accepted file is.
+#![tactic(auto)]
+
+mod checks;
+mod definitions;
+mod heads;
+mod jumps;
+mod least;
+mod marks;
+mod names;
+mod once;
+mod parameters;
+mod program;
+mod refusal;
+mod refusals;
+mod routine;
+mod sightings;
+mod standing;
+mod words;
+
+pub use checks::check;
+pub use program::Program;
+pub use refusal::{CheckStop, Refusal};
+pub use routine::Routine;
+
+#[cfg(test)]
+mod tests;
