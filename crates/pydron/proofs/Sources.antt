@@ -12,7 +12,8 @@ use Rattle.pyd_grammar.specs.Parses.{Parses}
 use Rattle.pyd_grammar.specs.Laws.{Answer, OneAnswer as OneParsing, AnAnswer as AParsing, FilesAreWellFormed}
 use Rattle.pyd_scope.specs.declared.program.Program.{Program}
 use Rattle.pyd_scope.specs.declared.refusal.Refusal.{Refusal}
-use Rattle.pyd_scope.specs.Checks.{Parts, answer, refusal, routines, parts, unless_refused}
+use Rattle.pyd_scope.specs.Checks.{Parts, answer, refusal, parts, unless_refused}
+use Rattle.pyd_scope.specs.Parts.{routines}
 use Rattle.pyd_names.specs.Binding.{constants}
 use Rattle.pydron.specs.declared.source_stop.SourceStop.{SourceStop}
 use Rattle.pydron.specs.declared.source_stop.SourceStop.TheVariants as stop

@@ -1,14 +1,14 @@
 //! Sources, and what is answered for each: a row a line, with ¶ for a line end.
 
 /// The sources of docs/STATUS.md, and others that show where each refusal begins.
-pub(super) const REFUSALS: &str = "x¶→ok: 0 functions, 0 constants
+pub(crate) const REFUSALS: &str = "x¶→ok: 0 functions, 0 constants
 x = \"a\" $ \"b\"¶→BadChar: line 1
 ﬁ = 1¶→BadName: line 1
 x = 012¶→BadNumber: line 1
 x = 170141183460469231731687303715884105728¶→WideNumber: line 1
 x = \"a\\d\"¶→BadString: line 1
 x = 'a¶→BadString: line 1
-if 1:¶	x = 1¶→Tab: line 2
+if 1:¶\tx = 1¶→Tab: line 2
 if 1:¶        x = 1¶    y = 2¶→BadDedent: line 3
 print((1)¶→Syntax: line 2
 print(------------------------1)¶→Deep: line 1
@@ -30,7 +30,7 @@ x = 1 + 1¶def f():¶    pass¶→NotConstant: line 1
 def f(a, a):¶    pass¶→TwiceParameter: line 1";
 
 /// Where the grammar stops.
-pub(super) const FAULTS: &str = "x = = 1¶→Syntax: line 1
+pub(crate) const FAULTS: &str = "x = = 1¶→Syntax: line 1
 x = 1 1¶→Syntax: line 1
 else:¶→Syntax: line 1
 )¶→Syntax: line 1
@@ -41,7 +41,7 @@ while 1:¶    pass¶else:¶    pass¶→Syntax: line 3
 print(170141183460469231731687303715884105728)¶→WideNumber: line 1";
 
 /// What binds, what names stand for, and where they may stand.
-pub(super) const NAMES: &str = "def f(len):¶    return len¶→ok: 1 functions, 0 constants
+pub(crate) const NAMES: &str = "def f(len):¶    return len¶→ok: 1 functions, 0 constants
 def f(len):¶    return len(1)¶→CallOfVariable: line 2
 def g():¶    pass¶def f():¶    g = 1¶    return g¶→ok: 2 functions, 0 constants
 from pydron import schedule¶schedule = 1¶→Rebind: line 2
@@ -79,7 +79,7 @@ from pydron import functional¶@functional¶@functional¶def f():¶    return 1�
 from pydron import functional¶def g():¶    pass¶@functional¶def f(x):¶    if x:¶        return (1, -g())¶→Impure: line 7";
 
 /// Sources that break a rule of scope twice, or two rules: the lower-numbered one, and its least line.
-pub(super) const PAIRS: &str = "def da():¶    pass¶def da():¶    pass¶def db():¶    pass¶def db():¶    pass¶→TwiceDefined: line 3
+pub(crate) const PAIRS: &str = "def da():¶    pass¶def da():¶    pass¶def db():¶    pass¶def db():¶    pass¶→TwiceDefined: line 3
 def da():¶    pass¶def da():¶    pass¶min = 1¶→TwiceDefined: line 3
 def da():¶    pass¶def da():¶    pass¶fb = len¶→TwiceDefined: line 3
 def da():¶    pass¶def da():¶    pass¶vb = 1 + 1¶vb(2)¶→TwiceDefined: line 3
@@ -225,7 +225,7 @@ def ta(a, a):¶    pass¶@schedule¶def kb():¶    pass¶→Decorator: line 3
 def ta(a, a):¶    pass¶def tb(a, a):¶    pass¶→TwiceParameter: line 1";
 
 /// Sources that are run: what is on the two sinks.
-pub(super) const RUNS: &str = "→→
+pub(crate) const RUNS: &str = "→→
 print(1 + 2)¶→3¶→
 print(40+2+0)¶→42¶→
 print(7)¶print(170141183460469231731687303715884105727 + 1)¶print(8)¶→7¶→LIMIT IntLimit: line 2¶
@@ -253,7 +253,7 @@ print(1)¶print(2)¶return 1¶→→REFUSED ReturnOutside: line 3¶
 print(1¶→→REFUSED Syntax: line 2¶";
 
 /// A whole script: five functions and two constants.
-pub(super) const PIXELS: &str = "\"\"\"Counts of bright pixels in three small fields.\"\"\"
+pub(crate) const PIXELS: &str = "\"\"\"Counts of bright pixels in three small fields.\"\"\"
 from pydron import schedule, functional
 
 # a pixel at or above LEVEL is bright
