@@ -1,9 +1,9 @@
-pub mod Runs
-pub mod Addends
-pub mod Sums
-pub mod LineForm
-pub mod FileForm
-pub mod Trees
-pub mod Reports
+pub mod Words
 pub mod Inputs
-pub mod Readings
+pub mod Sources
+pub mod Sought
+pub mod Pieces
+pub mod Works
+pub mod Promises
+pub mod Settling
+

@@ -1,15 +1,25 @@
--- What the form of files determines.
-use Rattle.std.specs.Prelude.{◌≡◌, ℕ, List}
-use Rattle.pydron.specs.Form.{Sum, IsLine, AreSums, FirstOther}
+-- What a source and a mode determine.
+use Rattle.std.specs.Prelude.{◌≡◌, ◌⊎◌, ℕ, List}
+use Rattle.pyd_scope.specs.declared.program.Program.{Program}
+use Rattle.pydron.specs.declared.mode.Mode.{Mode}
+use Rattle.pydron.specs.declared.conclusion.Conclusion.{Conclusion}
+use Rattle.pydron.specs.declared.source_stop.SourceStop.{SourceStop}
+use Rattle.pydron.specs.Accepts.{Fits, Accepted, IsRefused}
+use Rattle.pydron.specs.Modes.{Makes}
 
--- a line of the form has one sum
-abbrev pub OneSum : Type 0
-OneSum = (line : List ℕ) (s t : Sum) → IsLine line s → IsLine line t → s ≡ t
+-- two programs have the same file, routines and constants
+pub record Same (p q : Program) : Type 0 where
+  pub file : p.file ≡ q.file
+  pub routines : p.routines ≡ q.routines
+  pub constants : p.constants ≡ q.constants
 
--- a file of the form has one list of sums
-abbrev pub OneReading : Type 0
-OneReading = (bytes : List ℕ) (sums others : List Sum) → AreSums bytes sums → AreSums bytes others → sums ≡ others
+-- a source has one program or one refusal, and not both
+pub record OneAnswer : Type 0 where
+  pub some : (bytes : List ℕ) → ((p : Program) × Fits bytes × Accepted bytes p) ⊎ ((s : SourceStop) × IsRefused bytes s)
+  pub program : (bytes : List ℕ) (p q : Program) → Accepted bytes p → Accepted bytes q → Same p q
+  pub refusal : (bytes : List ℕ) (s t : SourceStop) → IsRefused bytes s → IsRefused bytes t → s ≡ t
+  pub either : (bytes : List ℕ) (p : Program) (s : SourceStop) → Fits bytes → Accepted bytes p → ¬ IsRefused bytes s
 
--- no file is of the form and has a first line of another one
-abbrev pub OneAnswer : Type 0
-OneAnswer = (bytes : List ℕ) (sums : List Sum) (n : ℕ) → AreSums bytes sums → ¬ FirstOther bytes n
+-- a mode makes one output of an input, and concludes in one way
+abbrev pub OneWork : Type 0
+OneWork = (m : Mode) (input output other : List ℕ) (c d : Conclusion) → Makes m input output c → Makes m input other d → (output ≡ other) × (c ≡ d)

@@ -1,6 +1,12 @@
+pub mod Accepts
+pub mod Checking
 pub mod Conclusion
-pub mod Form
+pub mod Correct
+pub mod Errors
 pub mod Laws
-pub mod Reading
-pub mod Tree
-pub mod Limits
+pub mod Modes
+pub mod Refusals
+pub mod Running
+pub mod Seeking
+pub mod Statuses
+pub mod Streams

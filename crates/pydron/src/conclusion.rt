@@ -1,22 +1,35 @@
 //! Why a run ends as it does.
-ghost use Rattle.std.specs.Prelude.{◌≡◌, codes};
-ghost use Rattle.pydron.specs.Conclusion.{status_of};
+ghost use Rattle.std.specs.Prelude.{◌≡◌};
+ghost use Rattle.pydron.specs.Refusals as spec;
+ghost use Rattle.pydron.specs.Statuses.{status_of};
 
+use crate::source_stop::SourceStop;
 use crate::status::Status;
-use pyd_value::Limit;
+use pyd_grammar::ParseFault;
+use pyd_lex::LexFault;
+use pyd_scope::Refusal;
+use pyd_value::{Kind, Limit};
 
 /// Why a run ends, with the line, counted from 1, where there is one.
 #[derive(Clone, Copy, Debug, PartialEq, Eq)]
 pub enum Conclusion {
-    /// The file ran to its end.
+    /// The script ran to its end, or the mode's text was put.
     Done,
+    /// An exception ended it.
+    Raised(Kind, u32),
     /// A limit fault ended it.
     Limit(Limit, u32),
     /// The words aren't those of a command.
     Words,
     /// The source is longer than sources may be.
     TooLong,
-    /// This line is the first that isn't of the form that is run so far.
+    /// It has no tokens.
+    Lex(LexFault),
+    /// Its tokens are read as no file.
+    Parse(ParseFault),
+    /// Its file breaks a rule of scope.
+    Scope(Refusal),
+    /// The item in this line is the first that isn't run so far.
     NotYet(u32),
     ReadFault,
     SinkFault,
@@ -29,12 +42,31 @@ impl Conclusion {
     {
         match self {
             Conclusion::Done => Status::Done,
+            Conclusion::Raised(..) => Status::Raised,
             Conclusion::Limit(..) => Status::Limit,
             Conclusion::Words => Status::Words,
-            Conclusion::TooLong | Conclusion::NotYet(_) => Status::Refused,
+            Conclusion::TooLong
+            | Conclusion::Lex(_)
+            | Conclusion::Parse(_)
+            | Conclusion::Scope(_)
+            | Conclusion::NotYet(_) => Status::Refused,
             Conclusion::ReadFault => Status::ReadFault,
             Conclusion::SinkFault => Status::SinkFault,
             Conclusion::NoMemory => Status::NoMemory,
         }
+    }
+}
+
+/// What the refusal of a source is called at the end of a call.
+pub(crate) fn stopped_by(stop: SourceStop) -> Conclusion
+    ensures { result ≡ spec.stopped_by stop }
+{
+    match stop {
+        SourceStop::TooLong => Conclusion::TooLong,
+        SourceStop::Lex(fault) => Conclusion::Lex(fault),
+        SourceStop::Parse(fault) => Conclusion::Parse(fault),
+        SourceStop::Scope(refusal) => Conclusion::Scope(refusal),
+        SourceStop::NotYet(line) => Conclusion::NotYet(line),
+        SourceStop::NoMemory => Conclusion::NoMemory,
     }
 }

@@ -1,9 +1,20 @@
-//! What the form of files determines. The function has an empty body, and its contract is the laws.
-ghost use Rattle.pydron.specs.Laws.{OneSum, OneReading, OneAnswer};
+//! What a source and a mode determine. Each function does nothing, and its contract is the law.
+ghost use Rattle.pydron.specs.Laws.{OneAnswer, OneWork};
 
-/// A file has one reading at most, and isn't both of the form and refused.
-pub fn form_laws()
-    ensures line { OneSum }
-    ensures file { OneReading }
-    ensures answer { OneAnswer }
-{}
+/// A source has one program or one refusal, and not both.
+pub fn one_answer()
+    ensures { OneAnswer }
+{
+    pyd_lex::an_answer();
+    pyd_lex::one_answer();
+    pyd_grammar::an_answer();
+    pyd_grammar::one_answer();
+    pyd_grammar::files_are_well_formed();
+}
+
+/// A mode makes one output of an input, and concludes in one way.
+pub fn one_work()
+    ensures { OneWork }
+{
+    one_answer();
+}

@@ -1,25 +1,30 @@
-//! `pydron` runs a script of standard input.
+//! `pydron` runs or checks a script of standard input.
 #![tactic(auto)]
 
+mod check;
+mod check_source;
 mod conclusion;
 mod laws;
-mod read;
+mod mode;
 mod report;
 mod run;
+mod source_stop;
 mod status;
-mod term;
 #[cfg(test)]
 mod tests;
+mod top;
 
+pub use check_source::check_source;
 use conclusion::Conclusion;
-pub use laws::form_laws;
+pub use laws::{one_answer, one_work};
+pub use mode::Mode;
 use pyd_source::{StdSink, StdSource};
-pub use read::{SourceStop, read_sums};
-pub use run::pydron_here;
+pub use source_stop::SourceStop;
 pub use status::{Ended, Status};
 use std::alloc::Global;
 use std::process::ExitCode;
 use std::{env, io};
+pub use top::pydron_here;
 
 fn main(rt: HostRuntime) -> ExitCode {
     let mut err = StdSink::new(rt.stderr());
@@ -27,11 +32,11 @@ fn main(rt: HostRuntime) -> ExitCode {
         Ok(words) => {
             let mut source = StdSource::new(rt.stdin());
             let out = StdSink::new(rt.stdout());
-            run::pydron_here(rt.alloc(), &words, &mut source, out, &mut err, &[]).status
+            pydron_here(rt.alloc(), &words, &mut source, out, &mut err, &[]).status
         }
-        Err(conclusion) => run::report(&mut err, conclusion),
+        Err(conclusion) => top::report(&mut err, conclusion),
     };
-    ExitCode::from(status as u8)
+    ExitCode::from(status.code())
 }
 
 /// The words behind the program's name.

@@ -1,128 +1,116 @@
-//! The top call: from words and a source to output, an error line and a status.
-ghost use Rattle.std.specs.Prelude.{◌≡◌, ◌≢◌, ◌≤◌, ◌↔◌, ◌⊎◌, ℕ, List, IsTrue, length};
-ghost use Rattle.pyd_source.specs.Faults.{Counted, Rose};
-ghost use Rattle.pydron.specs.Limits.{longest_source};
-ghost use Rattle.pydron.specs.Conclusion.{IsRun, IsInput, IsRunOf, Concludes, ConcludesSource, Reports, SinkCause};
+//! Mode `run`.
+ghost use Rattle.std.specs.Prelude.{◌≡◌, ◌≢◌, ◌⊎◌, ◌≤◌, [], ◌∷◌, ◌++◌, ℕ, List, Option, Some, None, All, IfSome, IsNone, length};
+ghost use Rattle.pyd_core.specs.Sums.{PrintsSum, IsSums};
+ghost use Rattle.pydron.specs.declared.mode.Mode.TheVariants.{Run};
+ghost use Rattle.pydron.specs.Accepts.{Fits, Accepted};
+ghost use Rattle.pydron.specs.Conclusion.{ConcludesRead};
+ghost use Rattle.pydron.specs.Running.{FirstOther, Settles};
+ghost use Rattle.pydron.specs.Running as spec;
+ghost use Rattle.pydron.specs.Seeking.{IsSought, Seeks};
+ghost use Rattle.pydron.specs.Statuses.{status_of};
+ghost use Rattle.pydron.specs.Streams.{stream};
 
-use crate::conclusion::Conclusion;
-use crate::read::{SourceStop, read_sums};
-use crate::report::put_error;
-use crate::status::{Ended, Status};
-use pyd_core::{Halt, settle_all};
-use pyd_source::{ReadStop, Sink, Source, read_all};
+use crate::check_source::check_source;
+use crate::conclusion::{Conclusion, stopped_by};
+use crate::status::Status;
+use pyd_core::{Halt, prints_sum, settle_all};
+use pyd_scope::Program;
+use pyd_source::Sink;
+use pyd_tree::{File, Item};
 use pyd_value::End;
 use std::alloc::Global;
 
-/// How many bytes a source may have.
-const LONGEST: usize = 1_048_576;
-
-/// Does the whole work on one thread, and waits for nobody.
-pub fn pydron_here<S: Source, K: Sink, E: Sink>(
-    alloc: Global,
-    words: &[String],
-    source: &mut S,
-    out: K,
-    err: &mut E,
-    _choices: &[u32],
-) -> Ended<K>
-    // An input and a conclusion explain what is left, held and answered (specs/Conclusion.antt).
-    ensures run { IsRunOf words.now result.status
-        (record {
-          left = S.left source.old;
-          left_after = S.left source.new;
-          held = K.held out;
-          held_after = K.held result.out;
-        })
-        (E.held err.old) (E.held err.new) }
-
-    // A failure of the outside is answered only where a count of faults rose.
-    ensures read_fault { Counted (S.faults source.old) (S.faults source.new)
-        (result.status ≡ Status.ReadFault) }
-    ensures sink_fault { SinkCause (K.faults out) (K.faults result.out)
-        (E.faults err.old) (E.faults err.new) (result.status ≡ Status.SinkFault) }
-
-    // No file that is run so far raises an exception, and no mode answers no.
-    ensures unraised { result.status ≢ Status.Raised }
-    ensures answered { result.status ≢ Status.No }
+/// Runs a source that was read to its end.
+pub(crate) fn run<K: Sink>(alloc: Global, bytes: &[u8], out: &mut K) -> Conclusion
+    requires { Fits bytes.now }
+    ensures concludes { ConcludesRead Run bytes.now
+        (stream (K.held out.old) (K.held out.new) (K.faults out.old) (K.faults out.new)) result }
+    ensures count { K.faults out.old ≤ K.faults out.new }
+    ensures unraised { status_of result ≢ Status.Raised }
 {
-    let mut out = out;
-    let conclusion = conclude(alloc, words, source, &mut out);
-    Ended {
-        status: report(err, conclusion),
-        out,
+    match check_source(alloc, bytes) {
+        Ok(program) => run_program(alloc, bytes, &program, out),
+        Err(stop) => stopped_by(stop),
     }
 }
 
-pub(crate) fn report<E: Sink>(err: &mut E, conclusion: Conclusion) -> Status
-    ensures reports { Reports conclusion result (E.held err.old) (E.held err.new) }
-    ensures cause { Counted (E.faults err.old) (E.faults err.new)
-        ((result ≡ Status.SinkFault) × (conclusion ≢ Conclusion.SinkFault)) }
-{
-    match put_error(err, conclusion) {
-        Ok(()) => conclusion.status(),
-        Err(_) => Status::SinkFault,
-    }
-}
-
-fn conclude<S: Source, K: Sink>(
+/// Runs the program of a source.
+fn run_program<K: Sink>(
     alloc: Global,
-    words: &[String],
-    source: &mut S,
+    bytes: &[u8],
+    program: &Program,
     out: &mut K,
 ) -> Conclusion
-    ensures concludes { (input : List ℕ) × IsInput (S.left source.old) input × Concludes words.now
-        input
-        (record {
-          left = S.left source.old;
-          left_after = S.left source.new;
-          held = K.held out.old;
-          held_after = K.held out.new;
-        })
-        result }
-    ensures read_fault { Counted (S.faults source.old) (S.faults source.new)
-        (result ≡ Conclusion.ReadFault) }
-    ensures sink_fault { Counted (K.faults out.old) (K.faults out.new)
-        (result ≡ Conclusion.SinkFault) }
+    requires fits { Fits bytes.now }
+    requires accepted { Accepted bytes.now program.now }
+    ensures concludes { ConcludesRead Run bytes.now
+        (stream (K.held out.old) (K.held out.new) (K.faults out.old) (K.faults out.new)) result }
+    ensures count { K.faults out.old ≤ K.faults out.new }
+    ensures unraised { status_of result ≢ Status.Raised }
 {
-    if !is_run(words) {
-        return Conclusion::Words;
-    }
-    match read_all(alloc, source, LONGEST) {
-        Ok(bytes) => run_source(alloc, &bytes, out),
-        Err(ReadStop::TooLong) => Conclusion::TooLong,
-        Err(ReadStop::ReadFault) => Conclusion::ReadFault,
-        Err(ReadStop::NoMemory) => Conclusion::NoMemory,
+    match first_other(program.file.items.as_slice()) {
+        Some(line) => Conclusion::NotYet(line),
+        None => settle(alloc, &program.file, out),
     }
 }
 
-/// Whether the words are those of a run.
-fn is_run(words: &[String]) -> bool
-    ensures { IsTrue result ↔ IsRun words.now }
+/// The least line of an item that doesn't print a sum.
+fn first_other(items: &[Item]) -> Option<u32>
+    ensures found { IfSome result (FirstOther items.now) }
+    ensures none { IsNone result → All PrintsSum items.now }
 {
-    if words.len() != 1 {
-        return false;
+    let mut first = None;
+    for item in items {
+        first = sought(first, item);
     }
-    words[0].as_str() == "run"
+    first
 }
 
-/// Runs a source whose words are those of a run.
-fn run_source<K: Sink>(alloc: Global, bytes: &[u8], out: &mut K) -> Conclusion
-    requires { length bytes.now ≤ longest_source }
-    ensures concludes { ConcludesSource bytes.now (K.held out.old) (K.held out.new) result }
-    ensures read_fault { result ≢ Conclusion.ReadFault }
-    ensures sink_fault { Counted (K.faults out.old) (K.faults out.new)
-        (result ≡ Conclusion.SinkFault) }
+/// What was found among some items, and then in one more.
+fn sought(first: Option<u32>, item: &Item) -> Option<u32>
+    ensures { Seeks first item.now result }
 {
-    let file = match read_sums(alloc, bytes) {
-        Ok(file) => file,
-        Err(SourceStop::TooLong) => return Conclusion::TooLong,
-        Err(SourceStop::NotYet(line)) => return Conclusion::NotYet(line),
-        Err(SourceStop::NoMemory) => return Conclusion::NoMemory,
-    };
-    match settle_all(alloc, &file, out) {
+    if prints_sum(item) {
+        return first;
+    }
+    Some(earlier(first, line_of(item)))
+}
+
+/// The earlier of two lines, the first of which may be missing.
+fn earlier(first: Option<u32>, line: u32) -> u32
+    ensures least { result ≤ line }
+    ensures below { IfSome first (λ other. result ≤ other) }
+    ensures either { IfSome first (λ other. (result ≡ line) ⊎ (result ≡ other)) }
+    ensures alone { IsNone first → result ≡ line }
+{
+    match first {
+        Some(other) if other < line => other,
+        _ => line,
+    }
+}
+
+fn line_of(item: &Item) -> u32
+    ensures { result ≡ spec.line_of item.now }
+{
+    match item {
+        Item::Import(line, ..) => *line,
+        Item::Def(func) => func.line,
+        Item::Stmt(stmt) => stmt.line,
+    }
+}
+
+/// Settles a file of sums.
+fn settle<K: Sink>(alloc: Global, file: &File, out: &mut K) -> Conclusion
+    requires { IsSums file.now }
+    ensures settles { Settles file.now
+        (stream (K.held out.old) (K.held out.new) (K.faults out.old) (K.faults out.new)) result }
+    ensures count { K.faults out.old ≤ K.faults out.new }
+    ensures unraised { status_of result ≢ Status.Raised }
+{
+    match settle_all(alloc, file, out) {
         Ok(End::Finished) => Conclusion::Done,
         Ok(End::Limit(limit, line)) => Conclusion::Limit(limit, line),
-        Ok(End::Raised(..)) => unreachable!(),
+        Ok(End::Raised(kind, line)) => Conclusion::Raised(kind, line),
         Err(Halt::SinkFault) => Conclusion::SinkFault,
         Err(Halt::NoMemory) => Conclusion::NoMemory,
     }

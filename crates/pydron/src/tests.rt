@@ -1,93 +1,22 @@
 //! The program over memory: scripts, their output, error lines and statuses.
 ghost use Rattle.std.specs.Prelude.{◌≤◌, ◌-◌, ◌^◌, Contains, IfOk};
 
-use crate::{Status, pydron_here};
+mod rows;
+
+use crate::{Status, check_source, pydron_here};
 use pyd_source::{MemSink, MemSource, Source};
 use std::alloc::{AllocError, Global};
+use std::str;
 use std::test::Fail;
-
-/// A source, the status of its run, and what stands on the two sinks.
-type Row = (&'static str, Status, &'static str, &'static str);
 
 const RUN: &[&str] = &["run"];
 
-/// Files of the form, with CPython's output up to the first sum of 128 bits or more.
-const FILES: &[Row] = &[
-    ("", Status::Done, "", ""),
-    ("print(1 + 2)", Status::Done, "3\n", ""),
-    ("print(40+2+0)\n", Status::Done, "42\n", ""),
-    ("print(7)\nprint(0)\n", Status::Done, "7\n0\n", ""),
-    ("print(1   +2+   3)", Status::Done, "6\n", ""),
-    (
-        "print(170141183460469231731687303715884105727)",
-        Status::Done,
-        "170141183460469231731687303715884105727\n",
-        "",
-    ),
-    (
-        "print(7)\nprint(170141183460469231731687303715884105727 + 1)\nprint(8)\n",
-        Status::Limit,
-        "7\n",
-        "LIMIT IntLimit: line 2\n",
-    ),
-    (
-        "print(170141183460469231731687303715884105726 + 1 + 0)",
-        Status::Done,
-        "170141183460469231731687303715884105727\n",
-        "",
-    ),
-    (
-        "print(1 + 170141183460469231731687303715884105727 + 0)",
-        Status::Limit,
-        "",
-        "LIMIT IntLimit: line 1\n",
-    ),
-];
-
-/// Files with a line of another form, and the error line of the first such line.
-const REFUSED: &[(&str, &str)] = &[
-    (
-        "print(170141183460469231731687303715884105728)",
-        "REFUSED NotYet: line 1\n",
-    ),
-    (
-        "print(1000000000000000000000000000000000000000)",
-        "REFUSED NotYet: line 1\n",
-    ),
-    ("print(07)", "REFUSED NotYet: line 1\n"),
-    ("print(00)", "REFUSED NotYet: line 1\n"),
-    ("print()", "REFUSED NotYet: line 1\n"),
-    ("print(1) ", "REFUSED NotYet: line 1\n"),
-    (" print(1)", "REFUSED NotYet: line 1\n"),
-    ("print( 1)", "REFUSED NotYet: line 1\n"),
-    ("print(1 )", "REFUSED NotYet: line 1\n"),
-    ("print(-1)", "REFUSED NotYet: line 1\n"),
-    ("print(+1)", "REFUSED NotYet: line 1\n"),
-    ("print(1++2)", "REFUSED NotYet: line 1\n"),
-    ("print(1 + )", "REFUSED NotYet: line 1\n"),
-    ("print(1 2)", "REFUSED NotYet: line 1\n"),
-    ("print(1\t+ 2)", "REFUSED NotYet: line 1\n"),
-    ("print(1)\r\nprint(2)\r\n", "REFUSED NotYet: line 1\n"),
-    ("print(1\0)", "REFUSED NotYet: line 1\n"),
-    ("print(1", "REFUSED NotYet: line 1\n"),
-    ("print", "REFUSED NotYet: line 1\n"),
-    ("\nprint(1)", "REFUSED NotYet: line 1\n"),
-    ("print(1)\nx = 1\n", "REFUSED NotYet: line 2\n"),
-    ("print(1)\n\nprint(2)\n", "REFUSED NotYet: line 2\n"),
-    ("print(1)\nprint(2)\n\n", "REFUSED NotYet: line 3\n"),
-    (
-        "print(1)\nprint(2)x\nprint(03)\n",
-        "REFUSED NotYet: line 2\n",
-    ),
-    (
-        "print(170141183460469231731687303715884105727 + 1)\nprint(01)",
-        "REFUSED NotYet: line 2\n",
-    ),
-];
+const CHECK: &[&str] = &["check"];
 
 const WORDS: &[&[&str]] = &[
     &[],
-    &["check"],
+    &["fly"],
+    &["check", "run"],
     &["Run"],
     &["run", "x"],
     &["run", "run"],
@@ -161,24 +90,108 @@ fn gave(ran: &Ran, status: Status, output: &str, error: &str) -> bool {
         && ran.error.as_slice() == error.as_bytes()
 }
 
+/// The text of a row, with a line end for each U+00B6.
+fn unfolded(alloc: Global, row: &str) -> Result<String, AllocError> {
+    let mut text = String::new(alloc);
+    for c in row.chars() {
+        text.push(if c == '\u{b6}' { '\n' } else { c })?;
+    }
+    Ok(text)
+}
+
+/// Whether mode `check` gives this answer for a source: what is accepted, or why it is refused.
+fn is_checked(alloc: Global, source: &str, answer: &str) -> Result<bool, Fail> {
+    let source = unfolded(alloc, source)?;
+    let ran = run_over(alloc, CHECK, source.as_bytes(), SMOOTH)?;
+    if answer.starts_with("ok: ") {
+        let output = format!(in alloc; "{answer}\n")?;
+        return Ok(gave(&ran, Status::Done, output.as_str(), ""));
+    }
+    let error = format!(in alloc; "REFUSED {answer}\n")?;
+    Ok(gave(&ran, Status::Refused, "", error.as_str()))
+}
+
 #[test]
-fn files_of_sums_give_what_python_gives(rt: HostRuntime) -> Result<(), Fail> {
-    for (source, status, output, error) in FILES {
-        let ran = run_over(rt.alloc(), RUN, source.as_bytes(), SMOOTH)?;
-        assert!(rt; gave(&ran, *status, output, error), "{source}");
-        assert_eq!(rt; ran.left, 0, "{source}");
+fn sources_are_accepted_or_refused(rt: HostRuntime) -> Result<(), Fail> {
+    for table in [rows::REFUSALS, rows::FAULTS, rows::NAMES, rows::PAIRS] {
+        for row in table.lines() {
+            let (source, answer) = row.split_once('\u{2192}').unwrap_or((row, ""));
+            let right = is_checked(rt.alloc(), source, answer)?;
+            assert!(rt; right, "{row}");
+        }
+    }
+    Ok(())
+}
+
+/// The status that goes with an error line of a run.
+fn status_of(error: &str) -> Status {
+    if error.is_empty() {
+        return Status::Done;
+    }
+    if error.starts_with("LIMIT") {
+        Status::Limit
+    } else {
+        Status::Refused
+    }
+}
+
+#[test]
+fn sums_are_run_and_other_items_are_not_yet(rt: HostRuntime) -> Result<(), Fail> {
+    let alloc = rt.alloc();
+    for row in rows::RUNS.lines() {
+        let (source, rest) = row.split_once('\u{2192}').unwrap_or((row, ""));
+        let (output, error) = rest.split_once('\u{2192}').unwrap_or((rest, ""));
+        let source = unfolded(alloc, source)?;
+        let output = unfolded(alloc, output)?;
+        let error = unfolded(alloc, error)?;
+        let status = status_of(error.as_str());
+        let ran = run_over(alloc, RUN, source.as_bytes(), SMOOTH)?;
+        assert!(rt; gave(&ran, status, output.as_str(), error.as_str()), "{row}");
+        assert_eq!(rt; ran.left, 0, "{row}");
     }
     Ok(())
 }
 
 #[test]
-fn the_first_line_of_another_form_is_named(rt: HostRuntime) -> Result<(), Fail> {
-    for (source, error) in REFUSED {
-        let ran = run_over(rt.alloc(), RUN, source.as_bytes(), SMOOTH)?;
-        assert!(rt; gave(&ran, Status::Refused, "", error), "{source}");
+fn a_whole_script_is_checked(rt: HostRuntime) -> Result<(), Fail> {
+    let alloc = rt.alloc();
+    let ran = run_over(alloc, CHECK, rows::PIXELS.as_bytes(), SMOOTH)?;
+    assert!(rt; gave(&ran, Status::Done, "ok: 5 functions, 2 constants\n", ""));
+    let Ok(program) = check_source(alloc, rows::PIXELS.as_bytes()) else {
+        return Err(Fail::new("a whole script"));
+    };
+    assert_eq!(rt; program.routines.len(), 6);
+    assert_eq!(rt; program.constants.len(), 3);
+    let ran = run_over(alloc, CHECK, b"x\xff", SMOOTH)?;
+    assert!(rt; gave(&ran, Status::Refused, "", "REFUSED Utf8: byte 1\n"));
+    Ok(())
+}
+
+/// Whether a check of a source ended well, or in a line of it.
+fn is_within(ran: &Ran, lines: usize) -> bool {
+    if ran.status == Status::Done {
+        return true;
     }
-    let ran = run_over(rt.alloc(), RUN, b"print(1)\nprint(\xff)\n", SMOOTH)?;
-    assert!(rt; gave(&ran, Status::Refused, "", "REFUSED NotYet: line 2\n"));
+    let Ok(error) = str::from_utf8(&ran.error) else {
+        return false;
+    };
+    let (_, line) = error.trim_end().rsplit_once(' ').unwrap_or((error, ""));
+    ran.status == Status::Refused
+        && line.parse::<usize>().is_ok_and(|line| 0 < line && line <= lines)
+}
+
+#[test]
+fn each_beginning_of_a_script_is_answered(rt: HostRuntime) -> Result<(), Fail> {
+    let source = rows::PIXELS.as_bytes();
+    let mut lines = 1usize;
+    for (end, byte) in source.iter().enumerate() {
+        let (front, _) = source.split_at(end);
+        let ran = run_over(rt.alloc(), CHECK, front, SMOOTH)?;
+        assert!(rt; is_within(&ran, lines), "the first {end} bytes");
+        if *byte == b'\n' {
+            lines = lines.saturating_add(1);
+        }
+    }
     Ok(())
 }
 
@@ -203,102 +216,109 @@ fn a_source_may_have_a_mebibyte(rt: HostRuntime) -> Result<(), Fail> {
     let whole = run_over(rt.alloc(), RUN, &source, SMOOTH)?;
     assert!(rt; gave(&whole, Status::Done, "1\n", ""));
     source.push(b'\n')?;
-    let long = run_over(rt.alloc(), RUN, &source, SMOOTH)?;
+    let long = run_over(rt.alloc(), CHECK, &source, SMOOTH)?;
     assert!(rt; gave(&long, Status::Refused, "", "REFUSED TooLong\n"));
     Ok(())
 }
 
-/// The most bytes that a call moves, the call that fails, and then what stands on the sinks.
-type FailingRow = (usize, u32, Status, &'static str, &'static str);
+/// Whether a run ended with a fault of a sink, and this many bytes of the texts are on the sinks.
+fn broke_off(ran: &Ran, output: (&str, usize), error: (&str, usize)) -> bool {
+    ran.status == Status::SinkFault
+        && ran.output.len() == output.1
+        && output.0.as_bytes().starts_with(&ran.output)
+        && ran.error.len() == error.1
+        && error.0.as_bytes().starts_with(&ran.error)
+}
 
-/// The source `print(1 + 2)`, of 12 bytes, failing at this call.
-const SOURCE_FAILS: &[FailingRow] = &[
-    (1, 0, Status::ReadFault, "", "FAULT read\n"),
-    (1, 12, Status::ReadFault, "", "FAULT read\n"),
-    (1, 13, Status::Done, "3\n", ""),
-    (2, 0, Status::ReadFault, "", "FAULT read\n"),
-    (2, 6, Status::ReadFault, "", "FAULT read\n"),
-    (2, 7, Status::Done, "3\n", ""),
-    (100, 0, Status::ReadFault, "", "FAULT read\n"),
-    (100, 1, Status::ReadFault, "", "FAULT read\n"),
-    (100, 2, Status::Done, "3\n", ""),
-];
+/// The most bytes that a call moves, and how many calls read the 12 bytes of `print(1 + 2)`.
+const TAKES: &[(usize, u32)] = &[(1, 13), (2, 7), (100, 2)];
 
 #[test]
 fn a_source_fails_at_each_call(rt: HostRuntime) -> Result<(), Fail> {
-    for (step, call, status, output, error) in SOURCE_FAILS {
+    for (step, calls) in TAKES {
         assert!(rt; *step > 0);
-        let course = Course {
-            step: *step,
-            source: Some(*call),
-            ..SMOOTH
-        };
-        let ran = run_over(rt.alloc(), RUN, b"print(1 + 2)", course)?;
-        assert!(rt;
-            gave(&ran, *status, output, error),
-            "step {step}, call {call}"
-        );
+        for call in 0..=*calls {
+            let course = Course {
+                step: *step,
+                source: Some(call),
+                ..SMOOTH
+            };
+            let ran = run_over(rt.alloc(), RUN, b"print(1 + 2)", course)?;
+            let right = if call < *calls {
+                gave(&ran, Status::ReadFault, "", "FAULT read\n")
+            } else {
+                gave(&ran, Status::Done, "3\n", "")
+            };
+            assert!(rt; right, "step {step}, call {call}");
+        }
     }
     Ok(())
 }
 
-/// The sink for the output of `print(12345)`, of 6 bytes, failing at this call.
-const OUTPUT_FAILS: &[FailingRow] = &[
-    (1, 0, Status::SinkFault, "", "FAULT sink\n"),
-    (1, 3, Status::SinkFault, "123", "FAULT sink\n"),
-    (1, 5, Status::SinkFault, "12345", "FAULT sink\n"),
-    (1, 6, Status::Done, "12345\n", ""),
-    (2, 1, Status::SinkFault, "12", "FAULT sink\n"),
-    (2, 2, Status::SinkFault, "1234", "FAULT sink\n"),
-    (2, 3, Status::Done, "12345\n", ""),
-    (100, 0, Status::SinkFault, "", "FAULT sink\n"),
-    (100, 1, Status::Done, "12345\n", ""),
-];
+/// The most bytes that a call moves, and how many calls put the 6 bytes of `12345` and a newline.
+const PUTS: &[(usize, u32)] = &[(1, 6), (2, 3), (100, 1)];
 
 #[test]
 fn the_sink_for_output_fails_at_each_call(rt: HostRuntime) -> Result<(), Fail> {
-    for (step, call, status, output, error) in OUTPUT_FAILS {
-        assert!(rt; *step > 0);
-        let course = Course {
-            step: *step,
-            out: Some(*call),
-            ..SMOOTH
-        };
-        let ran = run_over(rt.alloc(), RUN, b"print(12345)", course)?;
-        assert!(rt;
-            gave(&ran, *status, output, error),
-            "step {step}, call {call}"
-        );
+    for (step, calls) in PUTS {
+        assert!(rt; 0 < *step && *step <= 100);
+        for call in 0..=*calls {
+            let course = Course {
+                step: *step,
+                out: Some(call),
+                ..SMOOTH
+            };
+            let ran = run_over(rt.alloc(), RUN, b"print(12345)", course)?;
+            let gone = *step * (call % 100) as usize;
+            let right = if call < *calls {
+                broke_off(&ran, ("12345\n", gone), ("FAULT sink\n", 11))
+            } else {
+                gave(&ran, Status::Done, "12345\n", "")
+            };
+            assert!(rt; right, "step {step}, call {call}");
+        }
     }
     Ok(())
 }
 
-/// The sink for the error line of an `x`, failing at this call. Nothing is put on it afterwards.
-const ERROR_FAILS: &[FailingRow] = &[
-    (1, 0, Status::SinkFault, "", ""),
-    (1, 16, Status::SinkFault, "", "REFUSED NotYet: "),
-    (1, 22, Status::SinkFault, "", "REFUSED NotYet: line 1"),
-    (1, 23, Status::Refused, "", "REFUSED NotYet: line 1\n"),
-    (2, 3, Status::SinkFault, "", "REFUSE"),
-    (100, 0, Status::SinkFault, "", ""),
-    (100, 1, Status::SinkFault, "", "REFUSED NotYet"),
-    (100, 3, Status::SinkFault, "", "REFUSED NotYet: line 1"),
-    (100, 4, Status::Refused, "", "REFUSED NotYet: line 1\n"),
+/// The most bytes that a call moves, and what is on the sink for errors at each call, where that
+/// call fails: the line is put as four pieces of 14, 7, 1 and 1 bytes.
+const SAID: &[(usize, &[usize])] = &[
+    (
+        1,
+        &[
+            0, 1, 2, 3, 4, 5, 6, 7, 8, 9, 10, 11, 12, 13, 14, 15, 16, 17, 18, 19, 20, 21, 22,
+        ],
+    ),
+    (2, &[0, 2, 4, 6, 8, 10, 12, 14, 16, 18, 20, 21, 22]),
+    (100, &[0, 14, 21, 22]),
 ];
 
 #[test]
 fn the_sink_for_errors_fails_at_each_call(rt: HostRuntime) -> Result<(), Fail> {
-    for (step, call, status, output, error) in ERROR_FAILS {
+    for (step, said) in SAID {
         assert!(rt; *step > 0);
+        let mut call = 0u32;
+        for gone in *said {
+            let course = Course {
+                step: *step,
+                err: Some(call),
+                ..SMOOTH
+            };
+            let ran = run_over(rt.alloc(), RUN, b"1", course)?;
+            let right = broke_off(&ran, ("", 0), ("REFUSED NotYet: line 1\n", *gone));
+            assert!(rt; right, "step {step}, call {call}");
+            call = call.saturating_add(1);
+        }
         let course = Course {
             step: *step,
-            err: Some(*call),
+            err: Some(call),
             ..SMOOTH
         };
-        let ran = run_over(rt.alloc(), RUN, b"x", course)?;
+        let ran = run_over(rt.alloc(), RUN, b"1", course)?;
         assert!(rt;
-            gave(&ran, *status, output, error),
-            "step {step}, call {call}"
+            gave(&ran, Status::Refused, "", "REFUSED NotYet: line 1\n"),
+            "step {step}"
         );
     }
     Ok(())

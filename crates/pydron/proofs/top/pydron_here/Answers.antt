@@ -1,0 +1,20 @@
+use Rattle.pydron.proofs.Promises.{promises, unraised}
+use Rattle.pydron.proofs.top.pydron_here.Goals as goal
+
+pub returns-clause-run : goal.returns-clause-run
+returns-clause-run g c =
+    let made = c.conclude-conclusion.ensures in
+    record {
+      input = made.concludes.0;
+      conclusion = c.conclude-conclusion.result;
+      given = made.concludes.1;
+      concludes = made.concludes.2;
+      reports = c.report.ensures.reports;
+      counts = (made.source_count, made.out_count, c.report.ensures.count);
+    }
+
+pub returns-clause-promises : goal.returns-clause-promises
+returns-clause-promises g c = promises c.one_work.ensures _ _ _ _ _ (returns-clause-run g c)
+
+pub returns-clause-unraised : goal.returns-clause-unraised
+returns-clause-unraised g c = unraised _ _ _ c.conclude-conclusion.ensures.unraised c.report.ensures.reports
