@@ -6,4 +6,3 @@ pub mod Pieces
 pub mod Works
 pub mod Promises
 pub mod Settling
-

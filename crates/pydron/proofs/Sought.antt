@@ -82,6 +82,7 @@ one_line items n m a b = both (a.least b.there.0 b.there.1 b.there.2) (b.least a
     below : (x y : Item) (k : ℕ) → PrintsSum x ⊎ (k ≤ line_of x) → x ≡ y → ¬ PrintsSum y → k ≤ line_of y
     below x y k (inl prints) same other = absurd (other (subst PrintsSum same prints))
     below x y k (inr le) same other = subst (λ z. k ≤ line_of z) same le
+
     both : PrintsSum (slice_index_or items b.there.0 b.there.1) ⊎ (n ≤ line_of (slice_index_or items b.there.0 b.there.1))
         → PrintsSum (slice_index_or items a.there.0 a.there.1) ⊎ (m ≤ line_of (slice_index_or items a.there.0 a.there.1)) → n ≡ m
     both p q =

@@ -35,12 +35,7 @@ pub(crate) fn run<K: Sink>(alloc: Global, bytes: &[u8], out: &mut K) -> Conclusi
 }
 
 /// Runs the program of a source.
-fn run_program<K: Sink>(
-    alloc: Global,
-    bytes: &[u8],
-    program: &Program,
-    out: &mut K,
-) -> Conclusion
+fn run_program<K: Sink>(alloc: Global, bytes: &[u8], program: &Program, out: &mut K) -> Conclusion
     requires fits { Fits bytes.now }
     requires accepted { Accepted bytes.now program.now }
     ensures concludes { ConcludesRead Run bytes.now

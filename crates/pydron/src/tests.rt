@@ -4,6 +4,7 @@ ghost use Rattle.std.specs.Prelude.{◌≤◌, ◌-◌, ◌^◌, Contains, IfOk}
 mod rows;
 
 use crate::{Status, check_source, pydron_here};
+use pyd_gen::make_source;
 use pyd_source::{MemSink, MemSource, Source};
 use std::alloc::{AllocError, Global};
 use std::str;
@@ -146,7 +147,10 @@ fn sums_are_run_and_other_items_are_not_yet(rt: HostRuntime) -> Result<(), Fail>
         let error = unfolded(alloc, error)?;
         let status = status_of(error.as_str());
         let ran = run_over(alloc, RUN, source.as_bytes(), SMOOTH)?;
-        assert!(rt; gave(&ran, status, output.as_str(), error.as_str()), "{row}");
+        assert!(rt;
+            gave(&ran, status, output.as_str(), error.as_str()),
+            "{row}"
+        );
         assert_eq!(rt; ran.left, 0, "{row}");
     }
     Ok(())
@@ -167,6 +171,17 @@ fn a_whole_script_is_checked(rt: HostRuntime) -> Result<(), Fail> {
     Ok(())
 }
 
+/// The generated text of a number is that of its remainder by 101.
+#[test]
+fn each_generated_source_is_accepted(rt: HostRuntime) -> Result<(), Fail> {
+    for number in 0..101 {
+        let source = make_source(rt.alloc(), number)?;
+        let accepted = check_source(rt.alloc(), &source).is_ok();
+        assert!(rt; accepted, "{number}");
+    }
+    Ok(())
+}
+
 /// Whether a check of a source ended well, or in a line of it.
 fn is_within(ran: &Ran, lines: usize) -> bool {
     if ran.status == Status::Done {
@@ -177,7 +192,9 @@ fn is_within(ran: &Ran, lines: usize) -> bool {
     };
     let (_, line) = error.trim_end().rsplit_once(' ').unwrap_or((error, ""));
     ran.status == Status::Refused
-        && line.parse::<usize>().is_ok_and(|line| 0 < line && line <= lines)
+        && line
+            .parse::<usize>()
+            .is_ok_and(|line| 0 < line && line <= lines)
 }
 
 #[test]

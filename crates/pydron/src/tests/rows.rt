@@ -79,7 +79,8 @@ from pydron import functional¶@functional¶@functional¶def f():¶    return 1�
 from pydron import functional¶def g():¶    pass¶@functional¶def f(x):¶    if x:¶        return (1, -g())¶→Impure: line 7";
 
 /// Sources that break a rule of scope twice, or two rules: the lower-numbered one, and its least line.
-pub(crate) const PAIRS: &str = "def da():¶    pass¶def da():¶    pass¶def db():¶    pass¶def db():¶    pass¶→TwiceDefined: line 3
+pub(crate) const PAIRS: &str =
+    "def da():¶    pass¶def da():¶    pass¶def db():¶    pass¶def db():¶    pass¶→TwiceDefined: line 3
 def da():¶    pass¶def da():¶    pass¶min = 1¶→TwiceDefined: line 3
 def da():¶    pass¶def da():¶    pass¶fb = len¶→TwiceDefined: line 3
 def da():¶    pass¶def da():¶    pass¶vb = 1 + 1¶vb(2)¶→TwiceDefined: line 3
