@@ -17,7 +17,7 @@ use Rattle.pydron.specs.Accepts.{Fits, Accepted, IsRefused}
 use Rattle.pydron.specs.Refusals.{Refuses}
 use Rattle.pydron.specs.Streams.{Stream, HasFailed, Gained, GainedPart}
 
--- the bytes that a file prints
+-- the bytes that a file prints under the default limits
 abbrev pub output_of : File → List ℕ
 output_of file = bytes_of (mean file default_limits).lines
 
