@@ -1,6 +1,7 @@
 #!/usr/bin/env bash
-# Times 100,000 puts, fetches and removes of a store with 1,000, 10,000 and 100,000 entries.
-# Five rounds; prints the medians in nanoseconds a call, and how they grow beside the logarithm of the entries.
+# Times 100,000 puts, fetches and removes of a store with 1,000, 10,000 and 100,000 entries, with nodes in the order of
+# their numbers, as a run makes them, and in no order. Five rounds; prints the medians in nanoseconds a call, and how
+# they grow beside the logarithm of the entries.
 set -eu
 here=$(cd "$(dirname "$0")/.." && pwd)
 work=$(mktemp -d)
@@ -11,6 +12,8 @@ cat >"$work/crates/store_times/src/main.rt" <<'RT'
 //! Times the calls of a store: writes, for stores of three sizes, the nanoseconds a put, a fetch and a remove.
 #![tactic(auto)]
 
+ghost use Rattle.std.specs.Prelude.{◌<◌};
+
 use pyd_store::Store;
 use pyd_value::{NoMemory, Outcome, Value};
 use std::io;
@@ -19,10 +22,8 @@ use std::time::Instant;
 // How many calls of a kind are timed at each size.
 const CALLS: u64 = 100_000;
 
-// The nodes of a store, in no order.
-fn node(place: u64) -> u64 {
-    place.wrapping_mul(0x9E37_79B9_7F4A_7C15)
-}
+// By what the place of a node is multiplied to give its number: nodes in order, and in no order.
+const ORDERS: [(&str, u64); 2] = [("rising", 1), ("scattered", 0x9E37_79B9_7F4A_7C15)];
 
 fn put(store: &mut Store, node: u64) -> Result<(), NoMemory> {
     match store.put(node, Outcome::Ok(Value::Int(0))) {
@@ -34,51 +35,60 @@ fn put(store: &mut Store, node: u64) -> Result<(), NoMemory> {
     }
 }
 
-fn put_all(store: &mut Store, size: u64) -> Result<(), NoMemory> {
+fn put_all(store: &mut Store, size: u64, by: u64) -> Result<(), NoMemory> {
     for place in 0..size {
-        put(store, node(place))?;
+        put(store, place.wrapping_mul(by))?;
     }
     Ok(())
 }
 
-fn count_found(store: &Store, size: u64) -> u64 {
+fn count_found(store: &Store, size: u64, by: u64) -> u64 {
     let mut found = 0u64;
     for place in 0..size {
-        if store.fetch(node(place)).is_some() {
+        if store.fetch(place.wrapping_mul(by)).is_some() {
             found = found.saturating_add(1);
         }
     }
     found
 }
 
-fn remove_all(store: &mut Store, size: u64) {
+fn remove_all(store: &mut Store, size: u64, by: u64) {
     for place in 0..size {
-        store.remove(node(place));
+        store.remove(place.wrapping_mul(by));
     }
 }
 
-fn main(rt: HostRuntime) -> io::Result<()> {
-    for size in [1_000, 10_000, 100_000] {
-        let mut nanos = [0u128; 3];
-        for _ in 0..CALLS / size {
-            let mut store = Store::new(rt.alloc());
-            let start = Instant::now(&rt)?;
-            if put_all(&mut store, size).is_err() {
-                return Err(io::ErrorKind::OutOfMemory.into());
-            }
-            nanos[0] = nanos[0].saturating_add(start.elapsed(&rt)?.as_nanos());
-            let start = Instant::now(&rt)?;
-            let found = count_found(&store, size);
-            nanos[1] = nanos[1].saturating_add(start.elapsed(&rt)?.as_nanos());
-            let start = Instant::now(&rt)?;
-            remove_all(&mut store, size);
-            nanos[2] = nanos[2].saturating_add(start.elapsed(&rt)?.as_nanos());
-            if found != size || count_found(&store, size) != 0 {
-                return Err(io::ErrorKind::InvalidData.into());
-            }
+// Times the calls on stores of this size, with nodes in this order.
+fn measure(rt: &HostRuntime, order: &str, by: u64, size: u64) -> io::Result<()>
+    requires { 0 < size }
+{
+    let mut nanos = [0u128; 3];
+    for _ in 0..CALLS / size {
+        let mut store = Store::new(rt.alloc());
+        let start = Instant::now(rt)?;
+        if put_all(&mut store, size, by).is_err() {
+            return Err(io::ErrorKind::OutOfMemory.into());
         }
-        let [put, fetch, remove] = nanos.map(|nanos| nanos / u128::from(CALLS));
-        println!(rt; "{size} {put} {fetch} {remove}")?;
+        nanos[0] = nanos[0].saturating_add(start.elapsed(rt)?.as_nanos());
+        let start = Instant::now(rt)?;
+        let found = count_found(&store, size, by);
+        nanos[1] = nanos[1].saturating_add(start.elapsed(rt)?.as_nanos());
+        let start = Instant::now(rt)?;
+        remove_all(&mut store, size, by);
+        nanos[2] = nanos[2].saturating_add(start.elapsed(rt)?.as_nanos());
+        if found != size || count_found(&store, size, by) != 0 {
+            return Err(io::ErrorKind::InvalidData.into());
+        }
+    }
+    let [put, fetch, remove] = nanos.map(|nanos| nanos / u128::from(CALLS));
+    println!(rt; "{order} {size} {put} {fetch} {remove}")
+}
+
+fn main(rt: HostRuntime) -> io::Result<()> {
+    for (order, by) in ORDERS {
+        for size in [1_000, 10_000, 100_000] {
+            measure(&rt, order, by, size)?;
+        }
     }
     Ok(())
 }
@@ -96,11 +106,13 @@ CALLS = ("put", "fetch", "remove")
 rounds = []
 for _ in range(5):
     lines = subprocess.run(sys.argv[1:], check=True, capture_output=True, text=True).stdout.splitlines()
-    rounds.append([[int(word) for word in line.split()] for line in lines])
-rows = [[statistics.median(column) for column in zip(*same)] for same in zip(*rounds)]
-first = rows[0]
-for size, *times in rows:
-    logarithm = math.log(size) / math.log(first[0])
-    grown = ", ".join(f"{call} {time:.0f} ns ({time / least:.2f})" for call, time, least in zip(CALLS, times, first[1:]))
-    print(f"{size:.0f} entries: {grown}; the logarithm {logarithm:.2f}")
+    rounds.append([line.split() for line in lines])
+rows = [(same[0][0], int(same[0][1]), [statistics.median(int(row[at]) for row in same) for at in (2, 3, 4)])
+        for same in zip(*rounds)]
+first = {}
+for order, size, times in rows:
+    least_size, least = first.setdefault(order, (size, times))
+    logarithm = math.log(size) / math.log(least_size)
+    grown = ", ".join(f"{call} {time:.0f} ns ({time / before:.2f})" for call, time, before in zip(CALLS, times, least))
+    print(f"{order}, {size} entries: {grown}; the logarithm {logarithm:.2f}")
 PY
