@@ -57,8 +57,8 @@ fn turn(
     at: usize,
 ) -> Result<Option<usize>, NoMemory>
     requires symbol { in_range table (symbol ∷ []) ≡ true }
-    ensures { let turned = Turned (terminals tokens.now) symbol stack.old.items steps.old.items at in
-        IfOk result (λ next. turned stack.new.items steps.new.items next) }
+    ensures { let turned = Turned (terminals tokens.now) symbol stack.old.items steps.old.items at
+        in IfOk result (λ next. turned stack.new.items steps.new.items next) }
 {
     match symbol {
         Symbol::Terminal(kind) => {
