@@ -3,3 +3,4 @@ pub mod Finding
 pub mod Counting
 pub mod Outsides
 pub mod Firsts
+pub mod Resolved
