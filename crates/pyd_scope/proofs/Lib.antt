@@ -4,3 +4,5 @@ pub mod Counting
 pub mod Outsides
 pub mod Firsts
 pub mod Resolved
+pub mod Few
+pub mod Within

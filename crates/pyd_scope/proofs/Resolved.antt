@@ -1,5 +1,5 @@
 -- What a program's parts say of a name is what it is resolved to.
-use Rattle.std.proofs.Common.{◌≡◌, ¬◌, ℕ, zero, suc, ◌+◌, List, [], ◌∷◌, map, Bool, true, false, if◌then◌else◌, Option, Some, None, is_some, refl, ap, sym, ◌∙◌}
+use Rattle.std.proofs.Common.{◌≡◌, ℕ, zero, suc, List, [], ◌∷◌, map, Bool, true, false, if◌then◌else◌, Option, Some, None, is_some, refl, ap, sym, ◌∙◌}
 use Rattle.std.specs.List.{slice_get, flat_map, filter_map}
 use Rattle.std.proofs.lemmas.Option.{slice_get-map}
 use Rattle.std.specs.Prelude.{option_map}
@@ -9,8 +9,8 @@ use Rattle.pyd_tree.specs.declared.file.File.{File}
 use Rattle.pyd_tree.specs.declared.file.Func.{Func}
 use Rattle.pyd_tree.specs.declared.file.Item.{Item}
 use Rattle.pyd_tree.specs.declared.file.Item.TheVariants as item
-use Rattle.pyd_names.specs.Binding.{is_among, function_in, functions, function_locals, locals_in, locals}
-use Rattle.pyd_names.specs.Resolution.{Resolution, resolved, resolved_outside, constant_named, function_named, constant_or, function_or, builtin_or, variable_or_unbound}
+use Rattle.pyd_names.specs.Binding.{is_among, function_in, functions, imported_names, module_variables, locals_in, locals}
+use Rattle.pyd_names.specs.Resolution.{Resolution, resolved, resolved_outside, constant_named, function_named, builtin_named, constant_or, function_or, builtin_or, variable_or_unbound}
 use Rattle.pyd_names.specs.Resolution as resolution
 use Rattle.pyd_scope.specs.declared.routine.Routine.{Routine}
 use Rattle.pyd_scope.specs.Parts.{function_routine, routines_in, routines}
@@ -46,3 +46,68 @@ names_are [] = refl
 names_are (item.Import line from names ∷ is) = names_are is
 names_are (item.Def f ∷ is) = ap (λ ns. f.name ∷ ns) (names_are is)
 names_are (item.Stmt s ∷ is) = names_are is
+
+-- what a name stands for outside, by what each kind of name says of it
+by_kinds : Option Value → Option ℕ → Bool → Option Builtin → Bool → Resolution
+by_kinds constant function imported builtin variable =
+    constant_or constant (function_or function (if imported then resolution.Imported else builtin_or builtin (variable_or_unbound variable)))
+
+-- a name that is no constant, no function, not imported and no builtin
+pub last_kind : (file : File) (name : List ℕ) (r : Resolution) (v : Bool)
+    → constant_named file name ≡ None → function_named file name ≡ None → is_among (imported_names file) name ≡ false → builtin_named name ≡ None
+    → is_among (module_variables file) name ≡ v → r ≡ variable_or_unbound v → r ≡ resolved_outside file name
+unfolding by_kinds
+last_kind file name r v constant function imported builtin variable is =
+    let vs : Bool = is_among (module_variables file) name in
+    is ∙ ap variable_or_unbound (sym variable)
+    ∙ sym (ap (λ (o : Option Value). by_kinds o (function_named file name) (is_among (imported_names file) name) (builtin_named name) vs) constant
+    ∙ ap (λ (o : Option ℕ). by_kinds None o (is_among (imported_names file) name) (builtin_named name) vs) function
+    ∙ ap (λ (b : Bool). by_kinds None None b (builtin_named name) vs) imported
+    ∙ ap (λ (o : Option Builtin). by_kinds None None false o vs) builtin)
+
+no_kind_is_local : (c : Option Value) (f : Option ℕ) (i : Bool) (b : Option Builtin) (v : Bool) → ¬ (by_kinds c f i b v ≡ resolution.Local)
+unfolding by_kinds
+no_kind_is_local (Some c) f i b v is = cc
+no_kind_is_local None (Some f) i b v is = cc
+no_kind_is_local None None true b v is = cc
+no_kind_is_local None None false (Some b) v is = cc
+no_kind_is_local None None false None true is = cc
+no_kind_is_local None None false None false is = cc
+
+-- what a name stands for outside is no local
+pub outside_is_no_local : (file : File) (name : List ℕ) → ¬ (resolved_outside file name ≡ resolution.Local)
+unfolding by_kinds
+outside_is_no_local file name =
+    no_kind_is_local (constant_named file name) (function_named file name) (is_among (imported_names file) name) (builtin_named name) (is_among (module_variables file) name)
+
+-- a name is among those of a routine where it has a place
+among_place : (file : File) (rs : List Routine) (k : ℕ) (name : List ℕ) → rs ≡ routines file
+    → is_some (place (slots_in (slice_get rs k)) name) ≡ is_among (locals file k) name
+among_place file rs k name are =
+    is_some-place (slots_in (slice_get rs k)) name ∙ ap (λ (ns : List (List ℕ)). is_among ns name) (slots file rs k are)
+
+-- a name with a place among the slots is a local
+pub is_local : (file : File) (rs : List Routine) (k i : ℕ) (name : List ℕ) → rs ≡ routines file → Some i ≡ place (slots_in (slice_get rs k)) name
+    → is_among (locals file k) name ≡ true
+is_local file rs k i name are is = sym (among_place file rs k name are) ∙ ap is_some (sym is)
+
+-- a name with no place among the slots is no local
+pub is_no_local : (file : File) (rs : List Routine) (k : ℕ) (name : List ℕ) → rs ≡ routines file → None ≡ place (slots_in (slice_get rs k)) name
+    → is_among (locals file k) name ≡ false
+is_no_local file rs k name are is = sym (among_place file rs k name are) ∙ ap is_some (sym is)
+
+-- what a name stands for in a routine, by whether it is a local
+pub resolved_in : (file : File) (k : ℕ) (name : List ℕ) (b : Bool) → is_among (locals file k) name ≡ b
+    → (if b then resolution.Local else resolved_outside file name) ≡ resolved file k name
+resolved_in file k name b is = ap (λ (v : Bool). if v then resolution.Local else resolved_outside file name) (sym is)
+
+tail_of : List Routine → List Routine
+tail_of [] = []
+tail_of (r ∷ rs) = rs
+
+-- the names of all routines but the module are those of the functions
+pub function_names_are : (file : File) (rs fs : List Routine) (m : Routine) → rs ≡ routines file → rs ≡ m ∷ fs
+    → map (λ (r : Routine). r.name) fs ≡ map (λ (f : Func). f.name) (functions file)
+unfolding tail_of
+function_names_are file rs fs m are split =
+    ap (λ (l : List Routine). map (λ (r : Routine). r.name) (tail_of l)) (sym split ∙ are) ∙ names_are file.items
