@@ -118,14 +118,14 @@ locals_within file zero = module_within file
 locals_within file (suc k) = some_within file k (slice_get (functions file) k) refl
 
 -- a well-formed file has few locals in each routine
-few_locals : (file : File) → IsWellFormed file → (k : ℕ) → length (locals file k) < 4294967296
+pub few_locals : (file : File) → IsWellFormed file → (k : ℕ) → length (locals file k) < 4294967296
 few_locals file well k =
     let w : length (locals file k) ≤ parts file = locals_within file k in
     let f : parts file < 4294967296 = well.few in
     omega arith
 
 -- and few functions
-few_functions : (file : File) → IsWellFormed file → length (functions file) < 4294967296
+pub few_functions : (file : File) → IsWellFormed file → length (functions file) < 4294967296
 few_functions file well =
     let w : length (functions file) ≤ parts file = functions_within file.items in
     let f : parts file < 4294967296 = well.few in

@@ -6,3 +6,6 @@ pub mod Firsts
 pub mod Resolved
 pub mod Few
 pub mod Within
+pub mod Knowing
+pub mod Entries
+pub mod Known

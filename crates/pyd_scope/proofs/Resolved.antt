@@ -101,6 +101,27 @@ pub resolved_in : (file : File) (k : ℕ) (name : List ℕ) (b : Bool) → is_am
     → (if b then resolution.Local else resolved_outside file name) ≡ resolved file k name
 resolved_in file k name b is = ap (λ (v : Bool). if v then resolution.Local else resolved_outside file name) (sym is)
 
+-- only a function stands for one
+by_function : (c : Option Value) (f : Option ℕ) (i : Bool) (b : Option Builtin) (v : Bool) (n : ℕ) → by_kinds c f i b v ≡ resolution.Function n → f ≡ Some n
+unfolding by_kinds
+by_function (Some c) f i b v n is = cc
+by_function None (Some f) i b v n is = cc
+by_function None None true b v n is = cc
+by_function None None false (Some b) v n is = cc
+by_function None None false None true n is = cc
+by_function None None false None false n is = cc
+
+by_local : (l : Bool) (r : Resolution) (n : ℕ) → (if l then resolution.Local else r) ≡ resolution.Function n → r ≡ resolution.Function n
+by_local true r n is = cc
+by_local false r n is = is
+
+-- a name that stands for a function is the function's
+pub is_function : (file : File) (k : ℕ) (name : List ℕ) (n : ℕ) → resolved file k name ≡ resolution.Function n → function_named file name ≡ Some n
+unfolding by_kinds
+is_function file k name n is =
+    by_function (constant_named file name) (function_named file name) (is_among (imported_names file) name) (builtin_named name) (is_among (module_variables file) name) n
+    (by_local (is_among (locals file k) name) (resolved_outside file name) n is)
+
 tail_of : List Routine → List Routine
 tail_of [] = []
 tail_of (r ∷ rs) = rs

@@ -9,6 +9,7 @@ pub mod ByRule
 pub mod Answers
 pub mod Places
 pub mod Resolving
+pub mod Tables
 pub mod Once
 pub mod Standings
 pub mod UseRules

@@ -17,6 +17,8 @@ mod resolve;
 mod routine;
 mod sightings;
 mod standing;
+mod table;
+mod tables;
 mod uses;
 mod words;
 

@@ -1,12 +1,14 @@
 //! What a name stands for in a routine of a program (Python Language Reference, section 4.2.2).
-ghost use Rattle.std.specs.Prelude.{◌≡◌, ◌<◌, ◌^◌, length, map, option_map};
+ghost use Rattle.std.specs.Prelude.{◌≡◌, ◌<◌, ◌^◌, length, map, option_map, IfSome};
 ghost use Rattle.std.specs.List.{flat_map, position_from};
 ghost use Rattle.std.specs.Map.{lookup};
 ghost use Rattle.pyd_names.specs.Binding.{same_name, is_among, imports_in};
 ghost use Rattle.pyd_names.specs.Resolution.{function_named, resolved_outside};
 ghost use Rattle.pyd_scope.specs.Places as places;
 ghost use Rattle.pyd_scope.specs.Resolving as spec;
+ghost use Rattle.pyd_scope.specs.Tables.{IsKnown};
 
+use crate::table::Known;
 use crate::{Program, Routine, Use};
 use pyd_names::builtin_named;
 use pyd_tree::Item;
@@ -17,6 +19,29 @@ impl Program {
     /// function, an imported name, a builtin, a module variable, or nothing. Takes no memory.
     pub fn resolve(&self, routine: u32, name: &Text) -> Use<'_>
         requires { routine < length self.now.routines }
+        ensures { spec.Resolves self.now routine name.now result }
+    {
+        match self.known(routine, name) {
+            Some(Known::Slot(place)) => Use::Slot(place as u32),
+            Some(Known::Constant(place)) => Use::Constant(&self.constants.as_slice()[place].1),
+            Some(Known::Routine(place)) => Use::Routine(place as u32 + 1),
+            Some(Known::Builtin(builtin)) => Use::Builtin(builtin),
+            Some(Known::Imported) => Use::Imported,
+            Some(Known::Variable) => Use::Variable,
+            Some(Known::Unbound) => Use::Unbound,
+            None => self.search(routine, name),
+        }
+    }
+
+    /// What is known of a name that occurs in a routine.
+    fn known(&self, routine: u32, name: &Text) -> Option<Known>
+        ensures { IfSome result (IsKnown self.now.file routine name.now) }
+    {
+        self.tables.get(routine)?.find(name)
+    }
+
+    /// What a name stands for in a routine, sought in the parts of the program.
+    fn search(&self, routine: u32, name: &Text) -> Use<'_>
         ensures { spec.Resolves self.now routine name.now result }
     {
         match self.slot(routine, name) {
@@ -127,3 +152,6 @@ fn imports(item: &Item, name: &Text) -> bool
         Item::Def(_) | Item::Stmt(_) => false,
     }
 }
+
+#[cfg(test)]
+mod tests;
