@@ -1,6 +1,6 @@
 -- What is known of a name by the names of a file is what it stands for.
-use Rattle.std.proofs.Common.{◌≡◌, ◌⊎◌, ◌<◌, ◌≤◌, ℕ, zero, suc, ◌+◌, List, [], ◌∷◌, ◌++◌, map, length, Bool, true, false, cond, if◌then◌else◌, inl, inr, Option, Some, None, is_some, refl, ap, sym, ◌∙◌, subst, arith, get_or, Bor}
-use Rattle.std.specs.Prelude.{option_map, All, slice_index_or}
+use Rattle.std.proofs.Common.{◌≡◌, ◌⊎◌, ◌<◌, ℕ, suc, List, [], ◌∷◌, map, length, Bool, true, false, cond, if◌then◌else◌, inl, inr, Option, Some, None, is_some, refl, ap, sym, ◌∙◌, subst, get_or, Bor}
+use Rattle.std.specs.Prelude.{option_map, slice_index_or}
 use Rattle.std.specs.List.{slice_get, position_from}
 use Rattle.std.specs.Map.{lookup}
 use Rattle.std.proofs.lemmas.Option.{slice_get-map, slice_get-get_or}
@@ -14,11 +14,11 @@ use Rattle.pyd_names.specs.Resolution as resolution
 use Rattle.pyd_scope.specs.declared.standing.Outside.{Outside}
 use Rattle.pyd_scope.specs.declared.table.Entry.{Entry}
 use Rattle.pyd_scope.specs.declared.table.Known.{Known}
-use Rattle.pyd_scope.specs.declared.table.Known.TheVariants.{Slot, Constant, Routine, Builtin, Imported, Variable, Unbound}
+use Rattle.pyd_scope.specs.declared.table.Known.TheVariants.{Slot, Constant, Routine, Imported}
 use Rattle.pyd_scope.specs.Places.{place}
 use Rattle.pyd_scope.specs.Rules.{function_names}
 use Rattle.pyd_scope.specs.Standings.{IsOutside}
-use Rattle.pyd_scope.specs.Tables.{resolution_known, IsKnown, IsTable, AreTables, AreKnown, found_at, builtin_known, variable_known, known_beyond, known_in}
+use Rattle.pyd_scope.specs.Tables.{resolution_known, IsKnown, IsTable, AreKnown, found_at, builtin_known, variable_known, known_in}
 use Rattle.pyd_scope.proofs.Outsides.{position-suc}
 use Rattle.pyd_scope.proofs.Finding.{is_some-place}
 use Rattle.pyd_scope.proofs.Resolved.{outside_is_no_local}

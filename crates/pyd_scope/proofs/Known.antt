@@ -1,15 +1,14 @@
 -- What is known of a name gives its use.
-use Rattle.std.proofs.Common.{◌≡◌, ◌<◌, ◌≤◌, ℕ, zero, suc, ◌+◌, List, [], ◌∷◌, map, length, get_or, Bool, true, false, cond, if◌then◌else◌, Option, Some, None, refl, ap, sym, ◌∙◌, subst, arith}
+use Rattle.std.proofs.Common.{◌≡◌, ◌<◌, ℕ, suc, ◌+◌, List, [], ◌∷◌, map, length, get_or, Bool, true, false, cond, Option, Some, None, refl, ap, sym, ◌∙◌, subst, arith}
 use Rattle.std.specs.Prelude.{option_map, IfSome}
 use Rattle.std.specs.List.{Contains, slice_get, position_from}
 use Rattle.std.proofs.lemmas.List.{length-map}
 use Rattle.std.proofs.lemmas.Option.{slice_get_within, slice_get-get_or}
 use Rattle.std.proofs.lemmas.List.Elements.{All-contains}
 use Rattle.pyd_value.specs.declared.value.Value.{Value}
-use Rattle.pyd_value.specs.declared.operator.Builtin.{Builtin as BuiltinFunction}
 use Rattle.pyd_tree.specs.declared.file.File.{File}
 use Rattle.pyd_tree.specs.declared.file.Func.{Func}
-use Rattle.pyd_names.specs.Binding.{same_name, is_among, constants, functions, imported_names, module_variables, locals}
+use Rattle.pyd_names.specs.Binding.{same_name, constants, functions, locals}
 use Rattle.pyd_names.specs.Resolution.{Resolution, resolved, resolved_outside, constant_named, function_named, builtin_named, constant_or, function_or, builtin_or, variable_or_unbound}
 use Rattle.pyd_names.specs.Resolution as resolution
 use Rattle.pyd_names.specs.WellFormed.{IsWellFormed}
@@ -21,7 +20,7 @@ use Rattle.pyd_scope.specs.declared.uses.Use.TheVariants.{Slot}
 use Rattle.pyd_scope.specs.Parts.{routines}
 use Rattle.pyd_scope.specs.Places.{place}
 use Rattle.pyd_scope.specs.Resolving.{slots_in}
-use Rattle.pyd_scope.specs.Tables.{entry, resolution_known, IsKnown, IsTable, AreTables}
+use Rattle.pyd_scope.specs.Tables.{entry, IsKnown, AreTables}
 use Rattle.pyd_scope.proofs.Few.{few_locals, few_functions}
 use Rattle.pyd_scope.proofs.Resolved.{slots, is_function}
 

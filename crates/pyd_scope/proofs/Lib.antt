@@ -7,5 +7,5 @@ pub mod Resolved
 pub mod Few
 pub mod Within
 pub mod Knowing
-pub mod Entries
+pub mod Rows
 pub mod Known

@@ -1,4 +1,3 @@
-use Rattle.std.proofs.Common.{◌∙◌, ap, sym}
 use Rattle.pyd_scope.proofs.Known.{known_found}
 use Rattle.pyd_scope.proofs.program.Program.known.Goals as goal
 

@@ -1,4 +1,4 @@
-use Rattle.std.proofs.Common.{◌≡◌, ◌<◌, ◌∙◌, subst, arith}
+use Rattle.std.proofs.Common.{◌∙◌, subst, arith}
 use Rattle.pyd_scope.specs.declared.table.Known.TheVariants as known
 use Rattle.pyd_scope.specs.Tables.{IsKnown}
 use Rattle.pyd_scope.proofs.Known.{slot_fits, function_fits, slot_is, constant_within, constant_is}

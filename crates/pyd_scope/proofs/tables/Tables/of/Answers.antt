@@ -2,7 +2,7 @@ use Rattle.std.proofs.Common.{◌≡◌, ◌∙◌, suc, ◌+◌, ◌++◌, ◌�
 use Rattle.pyd_tree.specs.declared.file.Func.{Func}
 use Rattle.pyd_names.specs.Binding.{module_variables}
 use Rattle.pyd_scope.specs.declared.table.Entry.{Entry}
-use Rattle.pyd_scope.proofs.Entries.{Rows, row_more, rows_are}
+use Rattle.pyd_scope.proofs.Rows.{Rows, row_more, rows_are}
 use Rattle.pyd_scope.proofs.Knowing.{table_is, function_table_is}
 use Rattle.pyd_scope.proofs.tables.Tables.of.Goals as goal
 

@@ -1,5 +1,5 @@
 use Rattle.std.proofs.Common.{◌≡◌, ◌+◌, length}
-use Rattle.pyd_scope.proofs.Entries.{Rows}
+use Rattle.pyd_scope.proofs.Rows.{Rows}
 use Rattle.pyd_scope.proofs.tables.Tables.of.Given as goal
 
 abbrev pub invariant-loop-func : goal.invariant-loop-func

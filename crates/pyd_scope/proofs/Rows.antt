@@ -1,27 +1,9 @@
--- An entry that is found tells what is known of its name.
-use Rattle.std.proofs.Common.{◌≡◌, ◌<◌, ℕ, zero, suc, ◌+◌, List, [], ◌∷◌, ◌++◌, length, get_or, Bool, true, false, Option, Some, None, inl, inr, refl, ap, sym, ◌∙◌, subst, arith}
-use Rattle.std.specs.List.{Contains, slice_get, All}
-use Rattle.std.proofs.lemmas.List.Elements.{Contains-get_or}
+-- Tables by the numbers of their routines.
+use Rattle.std.proofs.Common.{◌≡◌, ℕ, zero, suc, ◌+◌, List, [], ◌∷◌, ◌++◌, length, Some, subst, arith}
+use Rattle.std.specs.List.{slice_get}
 use Rattle.pyd_tree.specs.declared.file.File.{File}
-use Rattle.pyd_names.specs.Binding.{same_name}
 use Rattle.pyd_scope.specs.declared.table.Entry.{Entry}
-use Rattle.pyd_scope.specs.Tables.{entry, IsTable, AreTables}
-use Rattle.pyd_scope.proofs.Finding.{truth_cases, same_is}
-
--- an entry of this name is among the entries
-pub entry_found : (entries : List Entry) (i : ℕ) (e : Entry) (name : List ℕ) → i < length entries → e ≡ get_or entries i e → same_name e.name name ≡ true
-    → Contains entries (entry name e.known)
-entry_found entries i e name within is same =
-    subst (λ (n : List ℕ). Contains entries (entry n e.known)) (same_is e.name name same)
-    (subst (λ (x : Entry). Contains entries x) (sym is) (Contains-get_or entries i e within))
-
--- names of different lengths are two
-pub two_lengths : (a b : List ℕ) → ¬ (length a ≡ length b) → same_name a b ≡ false
-two_lengths a b apart =
-    elim (truth_cases (same_name a b)) [
-      | inl same ↦ absurd (apart (ap (λ (n : List ℕ). length n) (same_is a b same)))
-      | inr other ↦ other
-    ]
+use Rattle.pyd_scope.specs.Tables.{IsTable, AreTables}
 
 -- the tables of the routines from this number on
 abbrev pub Rows : File → ℕ → List (List Entry) → Type 0
