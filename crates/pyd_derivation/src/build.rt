@@ -25,7 +25,7 @@ use crate::statements::{
 };
 use pyd_lex::Token;
 use pyd_syntax::Step;
-use pyd_value::NoMemory;
+use pyd_value::{Boxed, NoMemory};
 use std::alloc::Global;
 
 /// The line of the token at this place.
@@ -123,7 +123,7 @@ fn back(
 {
     match step {
         Step::Shift => {
-            pieces.push(Piece::Leaf(tokens[at - 1]))?;
+            pieces.push(Piece::Leaf(Boxed::new(alloc, tokens[at - 1])?))?;
             Ok(at - 1)
         }
         Step::Expand(production) => {
