@@ -40,6 +40,7 @@ fn line_at(tokens: &[Token], at: usize) -> u32
 }
 
 /// What is made of the parts in front by a production of files, functions and suites.
+#[inline(never)]
 fn make_file(
     alloc: Global,
     bytes: &[u8],
@@ -66,6 +67,7 @@ fn make_file(
 }
 
 /// The same by a production of statements.
+#[inline(never)]
 fn make_statement(
     alloc: Global,
     bytes: &[u8],
@@ -97,6 +99,7 @@ fn make_statement(
 }
 
 /// The same by a production of expressions.
+#[inline(never)]
 fn make_expression(
     alloc: Global,
     bytes: &[u8],
@@ -139,24 +142,41 @@ fn make_expression(
     }
 }
 
-/// What is made of the parts in front.
-fn make(
+/// The parts in front become what is made of them.
+// Two productions in five are empty: they make a piece of nothing, and pay for no other's frame.
+fn expand(
     alloc: Global,
     bytes: &[u8],
     making: Making,
     pieces: &mut Stack<Piece>,
     line: u32,
-) -> Result<Piece, NoMemory>
-    ensures made { IfOk result (λ v. v ≡ apply (action making) bytes.now line pieces.old) }
-    ensures rest { IfOk result (λ _. pieces.new ≡ drop (arity (action making)) pieces.old) }
+) -> Result<(), NoMemory>
+    ensures { IfOk result (λ _. pieces.new
+        ≡ apply (action making) bytes.now line pieces.old
+        ∷ drop (arity (action making)) pieces.old) }
 {
     match making {
-        Making::Nothing => Ok(Piece::Nothing),
-        Making::Same => Ok(pop(pieces)),
-        Making::Second => Ok(second(pieces)),
-        Making::File(making) => make_file(alloc, bytes, making, pieces, line),
-        Making::Statement(making) => make_statement(alloc, bytes, making, pieces, line),
-        Making::Expression(making) => make_expression(alloc, bytes, making, pieces, line),
+        Making::Nothing => pieces.push(Piece::Nothing),
+        Making::Same => {
+            let piece = pop(pieces);
+            pieces.push(piece)
+        }
+        Making::Second => {
+            let piece = second(pieces);
+            pieces.push(piece)
+        }
+        Making::File(making) => {
+            let piece = make_file(alloc, bytes, making, pieces, line)?;
+            pieces.push(piece)
+        }
+        Making::Statement(making) => {
+            let piece = make_statement(alloc, bytes, making, pieces, line)?;
+            pieces.push(piece)
+        }
+        Making::Expression(making) => {
+            let piece = make_expression(alloc, bytes, making, pieces, line)?;
+            pieces.push(piece)
+        }
     }
 }
 
@@ -180,8 +200,7 @@ fn back(
         }
         Step::Expand(production) => {
             let line = line_at(tokens, at);
-            let piece = make(alloc, bytes, making_of(production), pieces, line)?;
-            pieces.push(piece)?;
+            expand(alloc, bytes, making_of(production), pieces, line)?;
             Ok(at)
         }
     }
