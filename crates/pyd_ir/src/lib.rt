@@ -1,0 +1,14 @@
+//! The nodes of the graph, the jobs that workers do for them, and what these give.
+#![tactic(auto)]
+
+mod arg;
+mod code;
+mod job;
+mod node;
+mod work;
+
+pub use arg::{Arg, Ref};
+pub use code::OpCode;
+pub use job::{Job, Task};
+pub use node::{Chain, Node, Past};
+pub use work::{Frame, Rest, Side, Work};
