@@ -1,5 +1,5 @@
 -- What operators give.
-use Rattle.std.proofs.Common.{◌≡◌, ◌≢◌, ℕ, suc, nat_eq, List, [], ◌∷◌, length, slice_get, Bool, true, false, cond, Option, Some, None, Result, Ok, refl, ap, ◌∙◌}
+use Rattle.std.proofs.Common.{◌≡◌, ◌≢◌, ℕ, suc, List, [], ◌∷◌, length, cond, Some, Result, Ok, refl, ap, ◌∙◌}
 use Rattle.std.proofs.lemmas.Bool.{ne_eqb, eq-eqb}
 use Rattle.pyd_value.specs.declared.value.Value.{Value, Tuple}
 use Rattle.pyd_value.specs.declared.fault.Fault.{Fault}

@@ -1,6 +1,6 @@
 -- What the definitions say of each kind of node and job.
-use Rattle.std.specs.Prelude.{◌≡◌, ◌≢◌, ◌<◌, ℕ, suc, List, [], ◌∷◌, length, true, false, Option, Some, None, Ok, slice_get}
-use Rattle.pyd_value.specs.declared.value.Value.{Value, Int, Tuple}
+use Rattle.std.specs.Prelude.{◌≡◌, ◌≢◌, ◌<◌, ℕ, suc, List, [], ◌∷◌, length, true, false, Some, None, Ok, Err, Contains, slice_get}
+use Rattle.pyd_value.specs.declared.value.Value.{Value, Tuple}
 use Rattle.pyd_value.specs.declared.value.Value.TheVariants as value
 use Rattle.pyd_value.specs.declared.fault.Fault.{Fault}
 use Rattle.pyd_value.specs.declared.fault.Kind.{Kind}
@@ -13,7 +13,6 @@ use Rattle.pyd_value.specs.Truth.{is_true}
 use Rattle.pyd_tree.specs.declared.file.File.{File}
 use Rattle.pyd_tree.specs.declared.file.Func.{Func}
 use Rattle.pyd_names.specs.Binding.{function}
-use Rattle.pyd_ops.specs.declared.indexing.Bounds.{Bounds}
 use Rattle.pyd_ops.specs.Answer.{raise}
 use Rattle.pyd_ops.specs.Operators.{unary, binary}
 use Rattle.pyd_ops.specs.Comparing.{compare}
@@ -21,19 +20,20 @@ use Rattle.pyd_ops.specs.Indexing.{index, slice}
 use Rattle.pyd_ops.specs.Joining.{tuple_if_fits}
 use Rattle.pyd_ops.specs.Sequence.{items}
 use Rattle.pyd_meaning.specs.declared.limits.Limits.{Limits}
-use Rattle.pyd_meaning.specs.Evaluation.{gives, faults}
+use Rattle.pyd_text.specs.Texts as texts
+use Rattle.pyd_meaning.specs.Evaluation.{gives, faults, prints}
 use Rattle.pyd_meaning.specs.Setting.{place_of, raises, exceeds}
 use Rattle.pyd_ir.specs.declared.arg.Arg.{Arg}
-use Rattle.pyd_ir.specs.declared.code.OpCode.{OpCode}
 use Rattle.pyd_ir.specs.declared.code.OpCode.TheVariants as code
 use Rattle.pyd_ir.specs.declared.job.Task.{Task}
 use Rattle.pyd_ir.specs.declared.job.Task.TheVariants as task
 use Rattle.pyd_ir.specs.declared.node.Node.{Node}
+use Rattle.pyd_ir.specs.declared.work.Work.{Work}
 use Rattle.pyd_ir.specs.declared.work.Work.TheVariants as work
-use Rattle.pyd_ir.specs.Arguments.{is_pure}
+use Rattle.pyd_ir.specs.Arguments.{arguments, control, is_pure, is_composite}
 use Rattle.pyd_ir.specs.Operation.{operation}
 use Rattle.pyd_ir.specs.Meaning.{task_meaning}
-use Rattle.pyd_ir.specs.Inputs.{Given, value_of, values_of, has_inputs, task_of, look}
+use Rattle.pyd_ir.specs.Inputs.{Given, values_of, has_inputs, task_of, leaf_meaning, look}
 use Rattle.pyd_ir.specs.Ports.{ports_of}
 
 -- an operator is the operation of its name on as many values as that takes
@@ -113,5 +113,32 @@ pub record LookLaw : Type 0 where
       → look file limits given node ≡ Some (task_meaning file limits job node.line node.depth)
   pub stop : (file : File) (limits : Limits) (given : Given) (node : Node) (fault : Fault)
       → node.work ≡ work.Stop fault → look file limits given node ≡ Some (faults fault)
+  pub others : (file : File) (limits : Limits) (given : Given) (node : Node)
+      → is_pure node.work ≡ false → look file limits given node ≡ None
   pub absent : (file : File) (limits : Limits) (given : Given) (node : Node)
       → has_inputs given node.work ≡ false → look file limits given node ≡ None
+
+-- an effect: a print puts one line and gives None, and a run gives what its task does
+pub record EffectLaw : Type 0 where
+  pub prints : (file : File) (limits : Limits) (given : Given) (node : Node) (args : List Arg)
+      (vs : List Value) (text : List ℕ)
+      → node.work ≡ work.Print args → values_of given args ≡ Some vs
+      → texts.line vs node.line ≡ Ok text
+      → leaf_meaning file limits given node ≡ Some (prints text value.None)
+  pub too_long : (file : File) (limits : Limits) (given : Given) (node : Node) (args : List Arg)
+      (vs : List Value) (fault : Fault)
+      → node.work ≡ work.Print args → values_of given args ≡ Some vs
+      → texts.line vs node.line ≡ Err fault
+      → leaf_meaning file limits given node ≡ Some (faults fault)
+  pub run : (file : File) (limits : Limits) (given : Given) (node : Node) (func : ℕ)
+      (args : List Arg) (vs : List Value)
+      → node.work ≡ work.Run func args → values_of given args ≡ Some vs
+      → leaf_meaning file limits given node
+      ≡ Some (task_meaning file limits (task.Run func vs) node.line node.depth)
+
+-- composites are no leaves, and are chosen by one of their arguments
+pub record CompositeLaw : Type 0 where
+  pub no_leaf : (file : File) (limits : Limits) (given : Given) (node : Node)
+      → is_composite node.work ≡ true → leaf_meaning file limits given node ≡ None
+  pub not_pure : (w : Work) → is_composite w ≡ true → is_pure w ≡ false
+  pub control : (w : Work) (a : Arg) → control w ≡ Some a → Contains (arguments w) a

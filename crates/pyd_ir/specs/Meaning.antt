@@ -1,5 +1,5 @@
 -- What a job does under a file and limits.
-use Rattle.std.specs.Prelude.{◌≡◌, ℕ, suc, Bool, true, false, IsSome}
+use Rattle.std.specs.Prelude.{ℕ, suc, Bool, true, false, IsSome}
 use Rattle.pyd_value.specs.declared.value.Value.{Value}
 use Rattle.pyd_tree.specs.declared.file.File.{File}
 use Rattle.pyd_names.specs.Binding.{function}

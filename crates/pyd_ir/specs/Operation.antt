@@ -6,7 +6,6 @@ use Rattle.pyd_value.specs.declared.fault.Fault.{Fault}
 use Rattle.pyd_value.specs.declared.fault.Kind.TheVariants.{TypeError, ValueError, AssertionError}
 use Rattle.pyd_value.specs.declared.operator.Builtin.TheVariants as named
 use Rattle.pyd_value.specs.Truth.{is_true}
-use Rattle.pyd_ops.specs.declared.indexing.Bounds.{Bounds}
 use Rattle.pyd_ops.specs.Answer.{raise}
 use Rattle.pyd_ops.specs.Operators.{unary, binary}
 use Rattle.pyd_ops.specs.Comparing.{compare}

@@ -1,5 +1,5 @@
 -- The ports of leaves. A record keeps one value; of an unpacking it is the tuple of the members.
-use Rattle.std.specs.Prelude.{ℕ, zero, suc, List, Option, Some, None}
+use Rattle.std.specs.Prelude.{ℕ, zero, suc, Option, Some, None}
 use Rattle.pyd_value.specs.declared.value.Value.{Value}
 use Rattle.pyd_ops.specs.Sequence.{item_at}
 use Rattle.pyd_ir.specs.declared.code.OpCode.{OpCode}

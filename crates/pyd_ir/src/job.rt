@@ -1,4 +1,5 @@
 //! What a worker is asked to do.
+ghost use Rattle.std.specs.Prelude.{◌≡◌};
 
 use crate::OpCode;
 use pyd_value::{Kind, List, Value};
@@ -24,4 +25,18 @@ pub struct Job {
     pub line: u32,
     pub depth: u32,
     pub task: Task,
+}
+
+impl Task {
+    ghost use Rattle.pyd_ir.specs.Meaning.{is_call};
+
+    /// Whether it calls a function of the file.
+    pub fn is_call(&self) -> bool
+        ensures { result ≡ is_call self.now }
+    {
+        match self {
+            Task::Op { .. } | Task::Read { .. } => false,
+            Task::Call { .. } | Task::Run { .. } => true,
+        }
+    }
 }

@@ -35,3 +35,13 @@ pub fn call_law()
 pub fn look_law()
     ensures { law.LookLaw }
 {}
+
+/// A print puts one line and gives `None`, and a run gives what its task does.
+pub fn effect_law()
+    ensures { law.EffectLaw }
+{}
+
+/// A composite does nothing itself, and is chosen by one of its arguments.
+pub fn composite_law()
+    ensures { law.CompositeLaw }
+{}
