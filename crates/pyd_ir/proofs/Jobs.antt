@@ -38,16 +38,16 @@ value_or-lines (Some v) kind at = refl
 value_or-lines None kind at = refl
 
 -- what a read of a value gives
-pub value_or-some : (o : Option Value) (v : Value) (kind : Kind) (at : Place)
-    → o ≡ Some v → outcome.Ok v ≡ outcome_of (value_or o kind at).result
+pub read_some : (o : Option Value) (v : Value) (kind : Kind) (line : ℕ)
+    → o ≡ Some v → outcome_of (value_or o kind (place_of line)).result ≡ outcome.Ok v
 unfolding settled
-value_or-some o v kind at is = ap (λ o. outcome_of (value_or o kind at).result) (sym is)
+read_some o v kind line is = ap (λ o. outcome_of (value_or o kind (place_of line)).result) is
 
 -- what a read of nothing gives
-pub value_or-none : (o : Option Value) (kind : Kind) (line : ℕ)
-    → o ≡ None → outcome_of (raise kind line) ≡ outcome_of (value_or o kind (place_of line)).result
+pub read_none : (o : Option Value) (kind : Kind) (line : ℕ)
+    → o ≡ None → outcome_of (value_or o kind (place_of line)).result ≡ outcome_of (raise kind line)
 unfolding settled
-value_or-none o kind line is = ap (λ o. outcome_of (value_or o kind (place_of line)).result) (sym is)
+read_none o kind line is = ap (λ o. outcome_of (value_or o kind (place_of line)).result) is
 
 -- an operator prints nothing
 pub silent-op : (job : Job) (op : OpCode) (args : List Value) (given : Outcome)

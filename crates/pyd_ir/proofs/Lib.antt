@@ -1,3 +1,4 @@
 pub mod Operators
 pub mod Jobs
 pub mod Looking
+pub mod Keeping

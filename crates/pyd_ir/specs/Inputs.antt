@@ -70,7 +70,7 @@ has_inputs given (For over stmt turns rest env) = has_value given over
 has_inputs given (Pick test first second env) = has_value given test
 has_inputs given (Enter func args) = true
 
--- the task of a node with the values of its arguments, where it has a job and they are there
+-- the task of a node with the values of its arguments, where it has a job; a read may have none
 abbrev pub task_of : Given → Work → Option Task
 task_of given (Op op args) = option_map (task.Op op) (values_of given args)
 task_of given (Read arg kind) = Some (task.Read (value_of given arg) kind)
@@ -110,4 +110,5 @@ leaf_meaning file limits given node = work_meaning file limits given node.line n
 -- what a pure leaf gives once its arguments are there
 abbrev pub look : File → Limits → Given → Node → Option (Evaluation Value)
 look file limits given node =
-    cond (is_pure node.work && has_inputs given node.work) (leaf_meaning file limits given node) None
+    cond (is_pure node.work && has_inputs given node.work)
+    (leaf_meaning file limits given node) None

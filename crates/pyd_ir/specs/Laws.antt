@@ -18,12 +18,14 @@ use Rattle.pyd_ops.specs.Operators.{unary, binary}
 use Rattle.pyd_ops.specs.Comparing.{compare}
 use Rattle.pyd_ops.specs.Indexing.{index, slice}
 use Rattle.pyd_ops.specs.Joining.{tuple_if_fits}
+use Rattle.pyd_ops.specs.Limited.{Limited, EachLimited}
 use Rattle.pyd_ops.specs.Sequence.{items}
 use Rattle.pyd_meaning.specs.declared.limits.Limits.{Limits}
 use Rattle.pyd_text.specs.Texts as texts
 use Rattle.pyd_meaning.specs.Evaluation.{gives, faults, prints}
 use Rattle.pyd_meaning.specs.Setting.{place_of, raises, exceeds}
 use Rattle.pyd_ir.specs.declared.arg.Arg.{Arg}
+use Rattle.pyd_ir.specs.declared.code.OpCode.{OpCode}
 use Rattle.pyd_ir.specs.declared.code.OpCode.TheVariants as code
 use Rattle.pyd_ir.specs.declared.job.Task.{Task}
 use Rattle.pyd_ir.specs.declared.job.Task.TheVariants as task
@@ -86,6 +88,15 @@ pub record AssertLaw : Type 0 where
   pub fails : (a : Value) (line : ℕ)
       → is_true a ≡ false → operation code.Assert (a ∷ []) line ≡ raise AssertionError line
 
+-- from values within the limits every operator gives a value within them, or members that are
+pub record OperatorsKeepLimits : Type 0 where
+  pub value : (op : OpCode) (vs : List Value) (v : Value) (line : ℕ)
+      → ((count : ℕ) → op ≢ code.Unpack count) → EachLimited vs
+      → operation op vs line ≡ Ok v → Limited v
+  pub member : (count port : ℕ) (a whole v : Value) (args : List Arg) (line : ℕ)
+      → Limited a → operation (code.Unpack count) (a ∷ []) line ≡ Ok whole
+      → ports_of (work.Op (code.Unpack count) args) whole port ≡ Some v → Limited v
+
 -- a read gives its value, and raises its kind at its line where there is none
 pub record ReadLaw : Type 0 where
   pub bound : (file : File) (limits : Limits) (v : Value) (kind : Kind) (line depth : ℕ)
@@ -93,7 +104,7 @@ pub record ReadLaw : Type 0 where
   pub unbound : (file : File) (limits : Limits) (kind : Kind) (line depth : ℕ)
       → task_meaning file limits (task.Read None kind) line depth ≡ raises kind (place_of line)
 
--- a call checks the count of its arguments, and then its depth, which is one more than its routine's
+-- a call checks the count of its arguments, and then its depth, one more than its routine's
 pub record CallLaw : Type 0 where
   pub count : (file : File) (limits : Limits) (func line depth : ℕ) (f : Func) (args : List Value)
       → function file func ≡ Some f → length f.params ≢ length args

@@ -18,16 +18,22 @@ use Rattle.pyd_ir.specs.Operation.{operation}
 abbrev pub task_meaning : File → Limits → Task → ℕ → ℕ → Evaluation Value
 task_meaning file limits (Op op args) line depth = settled (operation op args line)
 task_meaning file limits (Read value kind) line depth = value_or value kind (place_of line)
-task_meaning file limits (Call func args) line depth = call_at file limits (suc depth) func args line
-task_meaning file limits (Run func args) line depth = call_at file limits (suc depth) func args line
+task_meaning file limits (Call func args) line depth =
+    call_at file limits (suc depth) func args line
+task_meaning file limits (Run func args) line depth =
+    call_at file limits (suc depth) func args line
 
 -- what a job does
 abbrev pub job_meaning : File → Limits → Job → Evaluation Value
 job_meaning file limits job = task_meaning file limits job.task job.line job.depth
 
--- what was run where it is an evaluation: its value or fault, and its lines
+-- the value or fault of an evaluation, and its lines
 abbrev pub ran_of : Evaluation Value → Ran
 ran_of e = record { outcome = outcome_of e.result; lines = e.lines }
+
+-- what is left of a job that was done
+abbrev pub job_ran : File → Limits → Job → Ran
+job_ran file limits job = ran_of (job_meaning file limits job)
 
 -- whether a task calls a function of the file
 abbrev pub is_call : Task → Bool

@@ -50,7 +50,8 @@ slice_of false false vs line = of_one (λ a. slice_between None None a line) vs 
 
 -- the tuple of the items, where they are so many; a value that has none is a TypeError
 abbrev pub unpack : ℕ → Option (List Value) → ℕ → Result Value Fault
-unpack count (Some xs) line = cond (nat_eq (length xs) count) (Ok (Tuple xs)) (raise ValueError line)
+unpack count (Some xs) line =
+    cond (nat_eq (length xs) count) (Ok (Tuple xs)) (raise ValueError line)
 unpack count None line = raise TypeError line
 
 -- None where a value is true, and the exception where it is false

@@ -55,6 +55,7 @@ fn outcome(alloc: Global, job: &Job) -> Result<Outcome, NoMemory>
 }
 
 /// The value that is read, or the exception where there is none.
+#[tactic(auto, using(crate::proofs::Jobs::read_some, crate::proofs::Jobs::read_none))]
 fn read(alloc: Global, value: &Option<Value>, kind: Kind, line: u32) -> Result<Outcome, NoMemory>
     ensures { Answers result (value_or value.now kind (place_of line)).result }
 {

@@ -2,7 +2,7 @@
 ghost use Rattle.std.specs.Prelude.{◌≡◌, IsTrue};
 ghost use Rattle.std.specs.Coded.{Coded-set};
 ghost use Rattle.pyd_meaning.specs.Outcome.{IsRunOf};
-ghost use Rattle.pyd_ir.specs.Meaning.{job_meaning, ran_of, is_call, TaskFits};
+ghost use Rattle.pyd_ir.specs.Meaning.{job_meaning, job_ran, is_call, TaskFits};
 
 use crate::Job;
 use pyd_board::Answer;
@@ -10,15 +10,15 @@ use pyd_meaning::{Limits, Ran};
 use pyd_tree::File;
 use std::snapshot::Snapshot;
 
-/// A job that was done: what it gave is what it means under a file and limits, which are named here.
-/// The file is named without its bytes.
+/// A job that was done: what it gave is what it means under a file and limits, which it names. The
+/// file is named without its bytes.
 #[derive(Drop)]
 pub struct Done {
     pub job: Job,
     pub ran: Ran,
     pub file: Snapshot<File>,
     pub limits: Limits,
-    pub ghost meant: { ran ≡ ran_of (job_meaning file.value limits job) } by { Coded-set ran-code ran (ran_of (job_meaning file.value limits job)) },
+    pub ghost meant: { ran ≡ job_ran file.value limits job } by { Coded-set ran-code _ _ },
 }
 
 impl Done {
@@ -40,6 +40,14 @@ impl Done {
             limits,
         }
     }
+}
+
+/// What any `Done` gave is what its job means under the file and the limits that it names.
+pub fn done_law(done: &Done)
+    ensures { IsRunOf done.now.ran
+        (job_meaning done.now.file.value done.now.limits done.now.job) }
+{
+    let _ = done;
 }
 
 /// A job is of the first run, and is for a file that has the function that it calls.

@@ -21,6 +21,12 @@ pub fn assert_law()
     ensures { law.AssertLaw }
 {}
 
+/// From values within the limits on integers, size and nesting every operator gives a value within
+/// them. Of an unpacking each member is.
+pub fn operators_keep_limits()
+    ensures { law.OperatorsKeepLimits }
+{}
+
 /// A read gives its value, or raises its kind at its line.
 pub fn read_law()
     ensures { law.ReadLaw }

@@ -16,8 +16,8 @@ use pyd_text::text_builtin;
 use pyd_value::{BinOp, CmpOp, Kind, List, NoMemory, Outcome, UnOp, Value, truth};
 use std::alloc::Global;
 
-/// What an operator gives on these values, with the line of a fault (docs/LANGUAGE.md, "Operators and
-/// builtin functions"). A count of values that it doesn't take is a `TypeError`.
+/// What an operator gives on these values, with the line of a fault (docs/LANGUAGE.md, "Operators"
+/// and "Builtin functions"). A count of values that it doesn't take is a `TypeError`.
 pub(crate) fn operation(
     alloc: Global,
     op: OpCode,

@@ -187,3 +187,29 @@ fn a_read_gives_its_value_or_raises_its_kind(rt: HostRuntime) -> Result<(), Fail
     assert!(rt; reads(rt.alloc(), None, kind, "UnboundLocalError")?);
     Ok(())
 }
+
+fn is_copy(a: &Arg, b: &Arg) -> bool {
+    match (a, b) {
+        (Arg::Known(Value::Int(a)), Arg::Known(Value::Int(b))) => *a == *b,
+        (Arg::From(a), Arg::From(b)) | (Arg::Slot(a), Arg::Slot(b)) => *a == *b,
+        (Arg::Unbound, Arg::Unbound) => true,
+        _ => false,
+    }
+}
+
+fn copies(alloc: Global, a: &Arg) -> Result<bool, NoMemory> {
+    let copy = a.try_copy(alloc)?;
+    let answer = is_copy(&copy, a);
+    drop(copy);
+    Ok(answer)
+}
+
+#[test]
+fn an_argument_is_copied(rt: HostRuntime) -> Result<(), Fail> {
+    let at = Ref { node: 2, port: 1 };
+    for a in &[Arg::From(at), Arg::Slot(at), Arg::Unbound] {
+        assert!(rt; copies(rt.alloc(), a)?);
+    }
+    assert!(rt; copies(rt.alloc(), &Arg::Known(Value::Int(5)))?);
+    Ok(())
+}

@@ -3,33 +3,33 @@
 use crate::{Arg, OpCode};
 use pyd_value::{Fault, Kind, List};
 
-/// Where a piece goes on once its statements have ended. Statements have their numbers in a routine,
-/// in text order from 0.
+/// Where a piece goes on once its statements have ended. Statements are numbered within a routine, in
+/// text order from 0.
 #[derive(Drop)]
 pub enum Frame {
     /// What follows the statement in its block.
     After(u32),
-    /// The next turn of the loop, of which so many turns were made, over this iterable. A `while` has
-    /// `Known(None)` in its place.
+    /// The next turn of the loop, of which so many turns were made, over this iterable. A `while`
+    /// has `Known(None)` in its place.
     Again { stmt: u32, turns: u64, over: Arg },
 }
 
 /// Frames, the innermost first.
 pub type Rest = List<Frame>;
 
-/// A side of a choice within an expression. Expressions have their numbers in a routine, in text order
+/// A side of a choice within an expression. Expressions are numbered within a routine, in text order
 /// from 0.
 #[derive(Drop)]
 pub enum Side {
     Arg(Arg),
     Expr(u32),
-    /// What is left of an `and` or `or` from a member on, or of a comparison from a link on with its
-    /// left operand. The other two have `Known(None)` in its place.
+    /// What is left of an `and` or `or` from a member on, or of a comparison from a link on with
+    /// its left operand. The other two have `Known(None)` in its place.
     Tail { expr: u32, member: u32, left: Arg },
 }
 
-/// What a node does. `Op`, `Read`, `Call` and `Stop` are pure, `Print` and `Run` are effects, and the
-/// others are composites, in whose place a piece is put.
+/// What a node does. `Op`, `Read`, `Call` and `Stop` are pure, `Print` and `Run` are effects, and
+/// the others are composites, in whose place a piece is put.
 #[derive(Drop)]
 pub enum Work {
     Op {
