@@ -19,8 +19,9 @@ class Answer(NamedTuple):
     printed: bytes
     end: tuple
 
-    def text(self):
-        shown = self.printed if len(self.printed) < 4_000 else b"... " + self.printed[-4_000:]
+    def text(self, most):
+        """The end, and the last bytes of what was printed."""
+        shown = self.printed if len(self.printed) <= most else b"... " + self.printed[-most:]
         return f"{self.end[0]}{f' in line {self.end[1]}' if self.end[1] else ''}, having printed\n{shown.decode(errors='replace')}"
 
 
@@ -31,8 +32,8 @@ class Comparison(NamedTuple):
     notes: tuple
     answers: tuple
 
-    def text(self):
-        return "\n".join(f"{who}: {answer.text()}" for who, answer in self.answers)
+    def text(self, most=4_000):
+        return "\n".join(f"{who}: {answer.text(most)}" for who, answer in self.answers)
 
 
 def by_program(source, program):
@@ -82,15 +83,17 @@ def against_cpython(ours, theirs):
     return difference(ours, theirs), ()
 
 
-def compare(source, refusal, program):
+def compare(source, refusal, program, with_cpython=True):
     """Compares all that is asked of a script; without a program CPython and the evaluator alone."""
     if refusal:
         return of_refused(source, refusal, program)
     ours = by_evaluator(source)
-    theirs = by_cpython(source, ours)
-    differs, notes = against_cpython(ours, theirs)
-    differs = differs and f"evaluator and CPython: {differs}"
-    answers = [("evaluator", ours), ("CPython", theirs)]
+    answers, differs, notes = [("evaluator", ours)], None, ()
+    if with_cpython:
+        theirs = by_cpython(source, ours)
+        differs, notes = against_cpython(ours, theirs)
+        differs = differs and f"evaluator and CPython: {differs}"
+        answers.append(("CPython", theirs))
     if program:
         given = by_program(source, program)
         answers.append(("program", given))

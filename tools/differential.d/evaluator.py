@@ -18,8 +18,12 @@ BUILTIN_NAMES = frozenset("print len abs min max sum str repr int bool range".sp
 
 def bound_names(statements):
     """The names that statements bind, in the suites within them too."""
-    return {node.id for top in statements for node in ast.walk(top)
-            if isinstance(node, ast.Name) and isinstance(node.ctx, ast.Store)}
+    names = set()
+    for statement in statements:
+        for target in getattr(statement, "targets", None) or [getattr(statement, "target", None)]:
+            names |= {name.id for name in getattr(target, "elts", [target]) if name}
+        names |= bound_names(getattr(statement, "body", [])) | bound_names(getattr(statement, "orelse", []))
+    return names
 
 
 class Frame:

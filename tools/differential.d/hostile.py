@@ -155,7 +155,7 @@ def wide_counts(random):
 
 
 HOSTILE = [brackets, nested, suites, chain, logic, suffixes, long_text, doubling, repeats, long_line, deep_tuple, large_number,
-           turns, turns, long_output, recursion, recursion, descent, many_locals, many_arguments, wide_counts]
+           turns, turns, turns, long_output, recursion, recursion, descent, many_locals, many_arguments, wide_counts]
 
 # a refusal, the lines that break its rule behind an accepted script, and the place of the faulty line in them
 REFUSED = [

@@ -89,6 +89,9 @@ class Scripts(Faulty):
         """An augmented assignment of any operator, and a line that keeps the value small."""
         kind = self.random.choice([NUMBER, NUMBER, NUMBER, TRUTH, TEXT, NUMBERS, WORDS])
         old = [name for name, known in sorted(scope.names.items()) if known == kind and name not in scope.fixed]
+        if self.random.random() < self.wild * 5:
+            # it binds a name that is unbound, or bound in a suite that may not have run
+            old = [name for name in NAMES if name not in scope.names]
         if not old:
             return self.assign(scope, suites, loop, gives)
         name = self.random.choice(old)
@@ -126,7 +129,7 @@ class Scripts(Faulty):
             names.append(self.target(kind, scope))
             # a name that stands twice has the later kind
             scope.names[names[-1]] = kind
-        if self.random.random() < self.wild * 3:
+        if self.random.random() < self.wild * 8:
             names.append(names[0])
         targets = ", ".join(names) + ("," if len(names) == 1 or self.random.random() < 0.1 else "")
         return [f"{f'({targets})' if self.random.random() < 0.15 else targets} = {value}"]
@@ -193,7 +196,8 @@ class Scripts(Faulty):
         if kind == "range":
             turns, iterable = self.span(scope)
         else:
-            turns, iterable = 4, self.of(kind, 2, scope).text
+            wild = self.random.random() < self.wild * 8
+            turns, iterable = 4, (self.any(2, scope) if wild else self.of(kind, 2, scope)).text
         if scope.turns * turns > MOST_TURNS:
             return self.shown(scope, suites, loop, gives)
         before = dict(scope.names)
@@ -213,6 +217,9 @@ class Scripts(Faulty):
         """How many turns a `range` makes at most, and its call."""
         count, step = self.random.randrange(9), self.random.choice([1, 2, 3, -1, -4])
         first = self.random.randrange(-9, 10)
+        if self.random.random() < self.wild * 8:
+            return 3, self.random.choice(["range()", "range('a')", "range(1, 2, 0)", "range(1, 2, 3, 4)", "range(0, None)",
+                                          "range(True, 4)", "range(2 ** 126, 2 ** 126 + 2)", "range((1,))"])
         if self.random.random() < 0.4:
             text = self.random.choice([f"{count}", f"0, {count}", f"{count} % 7, {count}"])
             return max(count, 1), f"range({text})"
