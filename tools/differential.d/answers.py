@@ -87,7 +87,10 @@ def compare(source, refusal, program, with_cpython=True):
     """Compares all that is asked of a script; without a program CPython and the evaluator alone."""
     if refusal:
         return of_refused(source, refusal, program)
-    ours = by_evaluator(source)
+    try:
+        ours = by_evaluator(source)
+    except evaluator.TooLong:
+        return Comparison(None, "too long", 0, (), ())
     answers, differs, notes = [("evaluator", ours)], None, ()
     if with_cpython:
         theirs = by_cpython(source, ours)

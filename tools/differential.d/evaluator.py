@@ -12,6 +12,8 @@ from operations import BINARY, COMPARE, LIMITS, UNARY, Fault, builtin, index, is
 from operations import slice_of, truth
 
 TURNS, DEPTH = 100_000, 64
+# no rule of the profile: a script with more calls isn't worth the time
+MOST_CALLS = 300_000
 BREAK, CONTINUE = "break", "continue"
 BUILTIN_NAMES = frozenset("print len abs min max sum str repr int bool range".split())
 
@@ -26,6 +28,10 @@ def bound_names(statements):
     return names
 
 
+class TooLong(Exception):
+    """The script goes on for longer than is worth the time."""
+
+
 class Frame:
     """What one call, or the module, has: its names with their values, its depth, and the line that it is at."""
 
@@ -38,7 +44,7 @@ class Script:
 
     def __init__(self, source, turns=TURNS, depth=DEPTH):
         body = ast.parse(source).body
-        self.turns, self.depth, self.printed = turns, depth, []
+        self.turns, self.depth, self.printed, self.calls = turns, depth, [], 0
         self.functions = {item.name: item for item in body if isinstance(item, ast.FunctionDef)}
         self.own = {name: bound_names(function.body) | {a.arg for a in function.args.args}
                     for name, function in self.functions.items()}
@@ -220,6 +226,9 @@ class Script:
         function = self.functions[called]
         require(len(arguments) == len(function.args.args), "TypeError")
         require(frame.depth < self.depth, "DepthLimit")
+        self.calls += 1
+        if self.calls > MOST_CALLS:
+            raise TooLong
         inner = Frame(self.own[called], frame.depth + 1)
         inner.values.update(zip((a.arg for a in function.args.args), arguments))
         return self.body(function.body, inner)

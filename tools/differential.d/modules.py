@@ -52,13 +52,14 @@ class Modules(Scripts):
             body += [f"if {names[0]} <= 0:", *self.indented([self.returned(scope, gives)])]
         for _ in range(self.random.randrange(1, 5)):
             body += self.statement(scope, 0, False, gives)
-        body += [f"{later} = 0" for later in sorted(scope.later)]
         times = 1
         if recursive:
             times = TWICE_DEPTHS**2 if gives == NUMBER and self.random.random() < 0.3 and scope.cost < 60 else DEPTHS_LEFT
             body += self.recursion(name, list(parameters.items()), gives, scope, times > DEPTHS_LEFT)
         elif gives != "nothing" or self.random.random() < 0.2:
             body.append(self.returned(scope, gives))
+        # behind the last `return` nothing runs, and what is bound there is local all the same
+        body += [f"{later} = 0" for later in sorted(scope.later)]
         self.printed = min(self.printed, before + 40)
         self.known.append(Known(name, tuple(parameters.values()), gives, pure, (scope.cost + 1) * times))
         comma = "," if names and self.random.random() < 0.1 else ""
