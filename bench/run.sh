@@ -2,6 +2,7 @@
 # Times `pydron run` beside python3 on whole scripts, and `check` and `run` on hostile ones; five rounds in turn.
 # Prints a table: medians of the whole process in seconds, the ratio to python3, and peaks of memory in MiB.
 # Complains where the two print something else. A script that pydron doesn't run so far, or python3 can't, has no time.
+# A peak below 20 MiB is that of the process that measures.
 set -eu
 here=$(cd "$(dirname "$0")/.." && pwd)
 work=$(mktemp -d)
@@ -84,10 +85,10 @@ def row(name, mode, source):
         failed.append(f"{name}: the two print something else")
     shown = [f"{seconds:9.3f}" if seconds else "        -" for seconds in (fast, slow)]
     ratio = f"{fast / slow:7.2f}" if fast and slow else "      -"
-    print(f"{name:32} {mode:5} {shown[0]} {shown[1]} {ratio} {max(r[1] for r in ours):7} {max(r[1] for r in theirs):7}", flush=True)
+    print(f"{name:32} {mode:5} {shown[0]} {shown[1]} {ratio} {max(r[1] for r in ours):7} MiB {max(r[1] for r in theirs):5} MiB", flush=True)
 
 
-print(f"{'script':32} {'mode':5} {'pydron s':>9} {'python3 s':>9} {'ratio':>7} {'MiB':>7} {'MiB':>7}")
+print(f"{'script':32} {'mode':5} {'pydron s':>9} {'python3 s':>9} {'ratio':>7}   peaks of memory")
 for name, source in SCRIPTS.items():
     row(name, "run", source)
 for name, source in HOSTILE.items():
