@@ -22,7 +22,8 @@ class Answer(NamedTuple):
     def text(self, most):
         """The end, and the last bytes of what was printed."""
         shown = self.printed if len(self.printed) <= most else b"... " + self.printed[-most:]
-        return f"{self.end[0]}{f' in line {self.end[1]}' if self.end[1] else ''}, having printed\n{shown.decode(errors='replace')}"
+        place = f" in line {self.end[1]}" if self.end[1] else ""
+        return f"{self.end[0]}{place}, having printed\n{shown.decode(errors='replace')}"
 
 
 class Comparison(NamedTuple):

@@ -12,8 +12,8 @@ KINDS = (NUMBER, TRUTH, TEXT, NUMBERS, WORDS, PAIR, ROWS)
 VARIABLE_BITS, MOST_BITS = 24, 110
 TEXTS = ["a", "bc", "hello", "", "it's", 'say "so"', "both ' and \"", "tab\there", "line\nend", "back\\slash", "\r",
          "\u00e9t\u00e9", "\u4e2d\u6587", "\U0001f40d", "\u00a0", "\u200b", "x y", "Zebra", "0", " 12 ", "-7", "True"]
-NAMES = ("a b c d e i k n s t u v w x y z total found row rest level name_1 _hidden \u00e9l\u00e9ment \u540d \u03b1\u03b2 match case kind "
-         "List longer_name_of_a_variable").split()
+NAMES = ("a b c d e i k n s t u v w x y z total found row rest level name_1 _hidden \u00e9l\u00e9ment \u540d \u03b1\u03b2 "
+         "match case kind List longer_name_of_a_variable").split()
 UNBOUND = ["missing", "absent", "unbound_1", "_nothing"]
 
 

@@ -26,7 +26,8 @@ def nested(random):
 def suites(random):
     """Suites as deep as is allowed."""
     count = random.randrange(12, 23)
-    words = [random.choice(["if 1:", "for i_0 in (0, 1)[1:]:", "for c_0 in 'x':", "if 0:\n{}pass\n{}elif 1:"]) for _ in range(count)]
+    headers = ["if 1:", "for i_0 in (0, 1)[1:]:", "for c_0 in 'x':", "if 0:\n{}pass\n{}elif 1:"]
+    words = [random.choice(headers) for _ in range(count)]
     lines = [" " * level + word.replace("{}pass", " " * (level + 1) + "pass").replace("{}", " " * level)
              for level, word in enumerate(words)]
     return "", ["\n".join(lines + [" " * count + "print('deep')"])]
@@ -59,10 +60,11 @@ def suffixes(random):
 def long_text(random):
     """A text that doubles until it is near the limit of sizes, or past it."""
     least = random.choice([0, 1, 2])
-    letter, wide = random.choice([("a", 1), ("\u00e9", 2), ("\u4e2d", 3), ("\U0001f40d", 4), ("\\'", 1), ("\\n", 1)])
+    letters = [("a", 1), ("\u00e9", 2), ("\u4e2d", 3), ("\U0001f40d", 4), ("\\'", 1), ("\\n", 1)]
+    letter, wide = random.choice(letters)
     count = (LARGEST - 1) // wide
-    return "", [f'near = "{letter}" * {count - least + 1}', "print(len(near))", "near += 'b'", "print(len(near), near[-1:])",
-                "print(len(repr(near)))", "print(len(str((near, near))))"]
+    return "", [f'near = "{letter}" * {count - least + 1}', "print(len(near))", "near += 'b'",
+                "print(len(near), near[-1:])", "print(len(repr(near)))", "print(len(str((near, near))))"]
 
 
 def doubling(random):
@@ -73,7 +75,8 @@ def doubling(random):
 def repeats(random):
     """Repeats near the limit, also with counts that CPython's sequences can't have."""
     count = LARGEST + random.choice([-2, -1, 0, 1])
-    return "", [f"print(len({random.choice(['(0,)', '(None,)', repr('a')])} * {count}))", f"print(len(((1, 2),) * {count // 3}))"]
+    items = random.choice(["(0,)", "(None,)", "'a'"])
+    return "", [f"print(len({items} * {count}))", f"print(len(((1, 2),) * {count // 3}))"]
 
 
 def long_line(random):
@@ -90,9 +93,10 @@ def deep_tuple(random):
 
 def large_number(random):
     """A number that a loop makes larger until it passes the limit, or comes close."""
-    start, step = random.choice([("1", "*= 2"), ("-1", "*= 2"), ("1", "*= -2"), ("3", "**= 2"), ("1", "<<= 7"), ("-1", "<<= 1"),
-                                 ("7", "= big * 31 + 5"), ("0", "= big * 2 + 1"), ("0", "= big * 2 - 1")])
-    return "", [f"big = {start}", f"for i_0 in range({random.choice([5, 126, 127, 128, 200])}):\n    big {step}", "print(big)"]
+    start, step = random.choice([("1", "*= 2"), ("-1", "*= 2"), ("1", "*= -2"), ("3", "**= 2"), ("1", "<<= 7"),
+                                 ("-1", "<<= 1"), ("7", "= big * 31 + 5"), ("0", "= big * 2 + 1"), ("0", "= big * 2 - 1")])
+    count = random.choice([5, 126, 127, 128, 200])
+    return "", [f"big = {start}", f"for i_0 in range({count}):\n    big {step}", "print(big)"]
 
 
 def turns(random):
@@ -113,15 +117,16 @@ def turns(random):
 
 def long_output(random):
     count = random.choice([1_000, 20_000])
-    return "", [f"for i_0 in range({count}):\n    print(i_0, {random.choice(['-i_0', repr('text'), '(i_0,)', 'i_0 * i_0'])})"]
+    value = random.choice(["-i_0", "'text'", "(i_0,)", "i_0 * i_0"])
+    return "", [f"for i_0 in range({count}):\n    print(i_0, {value})"]
 
 
 def recursion(random):
     """Calls near the limit of depth. What raises at the deepest place comes after the arguments."""
     mark = random.choice(MARKS)
     depth = DEPTH + random.choice([-2, -1, 0, 1])
-    body = random.choice(["return 1 + deep_f(n - 1)", "x = deep_f(n - 1)\n    return x + n", "return n and deep_f(n - 1) or 7",
-                          "return deep_f(n - 1) if n % 2 else deep_f(n - 1)"])
+    body = random.choice(["return 1 + deep_f(n - 1)", "x = deep_f(n - 1)\n    return x + n",
+                          "return n and deep_f(n - 1) or 7", "return deep_f(n - 1) if n % 2 else deep_f(n - 1)"])
     shown = "" if "functional" in mark else "    print('at', n)\n"
     definition = f"{mark}def deep_f(n):\n{shown}    if n <= 1:\n        return 0\n    {body}\n"
     return definition, [f"print(deep_f({depth}))"]
@@ -149,8 +154,9 @@ def many_arguments(random):
 
 def wide_counts(random):
     """Counts that CPython answers with OverflowError or not at all."""
-    text = random.choice(["'a' * 2 ** 100", "1 << 2 ** 100", "2 ** 2 ** 100", "-1 >> 2 ** 100", "0 << 2 ** 100", "'' * 2 ** 100",
-                          "() * 2 ** 100", "'a' * -2 ** 100", "1 ** 2 ** 100", "(-1) ** (2 ** 100 + 1)", "(1,) * 2 ** 126"])
+    text = random.choice(["'a' * 2 ** 100", "1 << 2 ** 100", "2 ** 2 ** 100", "-1 >> 2 ** 100", "0 << 2 ** 100",
+                          "'' * 2 ** 100", "() * 2 ** 100", "'a' * -2 ** 100", "1 ** 2 ** 100", "(-1) ** (2 ** 100 + 1)",
+                          "(1,) * 2 ** 126"])
     return "", [f"print({text})"]
 
 

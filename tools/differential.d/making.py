@@ -8,7 +8,8 @@ import rules
 from modules import Modules
 
 WORD = re.compile(r"(?<![\w'\"\\])[^\W\d]\w*(?![\w'\"])")
-KEYWORDS = frozenset("if elif else while for in and or not def return break continue pass assert from import True False None".split())
+KEYWORDS = frozenset("if elif else while for in and or not def return break continue pass assert from import "
+                     "True False None".split())
 MORE_NAMES = ["len", "print", "range", "schedule", "functional", "__name__", "unknown"]
 
 
@@ -107,7 +108,8 @@ def one_more_line(random, source):
     lines = source.split("\n")
     at = random.randrange(len(lines))
     width = len(lines[at]) - len(lines[at].lstrip(" "))
-    lines.insert(at, " " * width + random.choice(["return", "return 1", "break", "continue", "pass", "x = 1 + 1", "print(1)"]))
+    more = ["return", "return 1", "break", "continue", "pass", "x = 1 + 1", "print(1)"]
+    lines.insert(at, " " * width + random.choice(more))
     return "\n".join(lines)
 
 

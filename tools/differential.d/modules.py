@@ -141,8 +141,8 @@ class Modules(Scripts):
         lines = []
         for part in parts:
             lines += part
-            blank = 0.9 if len(part) > 1 else 0.05
-            lines += self.random.choice([[""], [""], ["", ""], ["", "  ", self.random.choice(COMMENTS)]]) if self.random.random() < blank else []
+            if self.random.random() < (0.9 if len(part) > 1 else 0.05):
+                lines += self.random.choice([[""], [""], ["", ""], ["", "  ", self.random.choice(COMMENTS)]])
         end = self.random.choice(["\n"] * 30 + ["\r\n", "\r"])
         text = "\n".join(lines).replace("\n", end)
         opening = "\ufeff" if self.random.random() < 0.01 else ""

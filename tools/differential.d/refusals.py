@@ -33,7 +33,8 @@ def parts(node):
         found = []
         while isinstance(node, ast.Subscript):
             suffix = node.slice
-            found += [bound for bound in (suffix.lower, suffix.upper) if bound] if isinstance(suffix, ast.Slice) else [suffix]
+            bounds = (suffix.lower, suffix.upper) if isinstance(suffix, ast.Slice) else (suffix,)
+            found += [bound for bound in bounds if bound]
             if not bare_left(node, node.value):
                 return found + [node.value]
             node = node.value

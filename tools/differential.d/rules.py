@@ -1,7 +1,7 @@
 """The rules of scope, each as the lines that break it, in the order in which they refuse a script."""
 import ast
 
-from refusals import BUILTIN_NAMES, COMPOUND, MARKS, Names, bound, inner, is_literal, is_plain, is_string_line, suites, too_deep
+from refusals import BUILTIN_NAMES, MARKS, Names, bound, inner, is_literal, is_plain, is_string_line, suites, too_deep
 
 
 def twice_defined(names):
@@ -121,18 +121,22 @@ def twice_parameter(names):
 
 
 RULES = [
-    ("TwiceDefined", twice_defined), ("Rebind", rebind), ("FunctionValue", function_value), ("CallOfVariable", call_of_variable),
-    ("GlobalRead", global_read), ("Impure", impure), ("ReturnOutside", return_outside), ("BreakOutside", break_outside),
-    ("LateDef", late_definition), ("NotConstant", not_constant), ("Decorator", decorator), ("TwiceParameter", twice_parameter),
+    ("TwiceDefined", twice_defined), ("Rebind", rebind), ("FunctionValue", function_value),
+    ("CallOfVariable", call_of_variable), ("GlobalRead", global_read), ("Impure", impure),
+    ("ReturnOutside", return_outside), ("BreakOutside", break_outside), ("LateDef", late_definition),
+    ("NotConstant", not_constant), ("Decorator", decorator), ("TwiceParameter", twice_parameter),
 ]
 
 
 def refusal(source):
     """The refusal of a script that CPython parses, with its line, or None where it is accepted."""
     items = ast.parse(source).body
-    bodies = [item.body if isinstance(item, ast.FunctionDef) else [item] for item in items]
-    deep = [line for item, body in zip(items, bodies)
-            for line in too_deep([each for each in body if not isinstance(each, ast.ImportFrom)], int(isinstance(item, ast.FunctionDef)))]
+    deep = []
+    for item in items:
+        if isinstance(item, ast.FunctionDef):
+            deep += too_deep(item.body, 1)
+        elif not isinstance(item, ast.ImportFrom):
+            deep += too_deep([item])
     if deep:
         return "Deep", min(deep)
     names = Names(items)

@@ -149,7 +149,9 @@ class Scripts(Faulty):
         return [self.random.choice(["pass", '"a string alone"', "pass  # nothing", '""" one\n\n two"""'])]
 
     def claim(self, scope, suites, loop, gives):
-        test = self.truth(2, scope) if self.random.random() < self.wild * 10 else Piece(f"{self.at(2, self.any(2, scope))} or True", 1)
+        test = self.truth(2, scope)
+        if self.random.random() >= self.wild * 10:
+            test = Piece(f"{self.at(2, test)} or True", 1)
         message = f", {self.at(0, self.any(2, scope))}" if self.random.random() < 0.5 else ""
         return [f"assert {self.at(0, test)}{message}"]
 

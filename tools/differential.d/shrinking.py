@@ -94,10 +94,14 @@ def by_layout(source):
                 yield source[: start - 1] + source[start:end] + source[end + 1 :]
 
 
+def is_bound(node):
+    return isinstance(getattr(node, "ctx", None), ast.Store)
+
+
 def by_expressions(source):
     """Sources in which one expression is a part of it, or a literal."""
     tree, starts = ast.parse(source), spans(source)
-    found = [node for node in ast.walk(tree) if isinstance(node, ast.expr) and not isinstance(getattr(node, "ctx", None), ast.Store)]
+    found = [node for node in ast.walk(tree) if isinstance(node, ast.expr) and not is_bound(node)]
     for node in sorted(found, key=lambda node: span(node, starts)[0] - span(node, starts)[1]):
         start, end = span(node, starts)
         parts = [part for part in ast.iter_child_nodes(node) if isinstance(part, ast.expr)]
