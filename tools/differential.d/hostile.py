@@ -160,7 +160,8 @@ def wide_counts(random):
     return "", [f"print({text})"]
 
 
-HOSTILE = [brackets, nested, suites, chain, logic, suffixes, long_text, doubling, repeats, long_line, deep_tuple, large_number,
+HOSTILE = [brackets, nested, suites, chain, logic, suffixes, long_text, doubling, repeats, long_line,
+           deep_tuple, large_number,
            turns, turns, turns, long_output, recursion, recursion, descent, many_locals, many_arguments, wide_counts]
 
 # a refusal, the lines that break its rule behind an accepted script, and the place of the faulty line in them
@@ -169,7 +170,8 @@ REFUSED = [
     ("LateDef", ["print(1)", "def late(n):", "    return n"], 1), ("FunctionValue", ["x_7 = len"], 0),
     ("FunctionValue", ["x_7 = range(3)"], 0), ("CallOfVariable", ["x_7 = 1 + 1", "x_7(2)"], 1), ("Rebind", ["len = 3"], 0),
     ("Rebind", ["for __name__ in 'a':", "    pass"], 0), ("Target", ["f_7() = 1"], 0), ("Target", ["(1, 2) = 3, 4"], 0),
-    ("Syntax", ["print(1 2)"], 0), ("Syntax", ["x_7 = "], 0), ("Syntax", ["x_7 = y_7 = 1"], 0), ("BadNumber", ["x_7 = 012"], 0),
+    ("Syntax", ["print(1 2)"], 0), ("Syntax", ["x_7 = "], 0), ("Syntax", ["x_7 = y_7 = 1"], 0),
+    ("BadNumber", ["x_7 = 012"], 0),
     ("BadString", ["x_7 = 'a\\d'"], 0), ("BadChar", ["x_7 = 1 $ 2"], 0), ("WideNumber", [f"x_7 = {2**127}"], 0),
     ("Tab", ["if 1:", "\tx_7 = 1"], 1), ("BadDedent", ["if 1:", "    x_7 = 1", "  x_7 = 2"], 2),
     ("Deep", ["x_7 = " + "-" * 25 + "1"], 0), ("BadName", ["\ufb01_7 = 1"], 0),
