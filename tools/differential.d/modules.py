@@ -1,7 +1,7 @@
 """Random scripts, whole: the module's head with constants and functions, and then its statements."""
 import re
 
-from expressions import COUNT, KINDS, NAMES, NUMBER, PAIR, ROWS, SUM, TERM, TEXT, TRUTH, Known, Piece, Scope
+from expressions import COUNT, KINDS, NAMES, NUMBER, PAIR, SUM, TERM, TEXT, TRUTH, Known, Piece, Scope
 from scripts import BUILTIN_NAMES, COMMENTS, FUNCTION_NAMES, Scripts
 
 CONSTANT_NAMES = "LEVEL FIELDS ROWS NAME LIMIT_1 Zero EMPTY \u00c9TAT WORDS_2 FLAG".split()
