@@ -1,10 +1,9 @@
 -- How a mode's work on an input concludes a call.
-use Rattle.std.proofs.Common.{◌≡◌, ◌≢◌, ◌⊎◌, ℕ, ◌<◌, List, [], length, refl, sym, subst, inl, inr, String}
+use Rattle.std.proofs.Common.{◌≡◌, ◌⊎◌, ℕ, ◌<◌, List, [], length, refl, sym, subst, inl, inr, String}
 use Rattle.std.specs.declared.alloc.Global.{Global}
 use Rattle.pyd_value.specs.declared.fault.End.{End}
 use Rattle.pyd_value.specs.declared.fault.End.TheVariants as ending
 use Rattle.pyd_tree.specs.declared.file.File.{File}
-use Rattle.pyd_core.specs.Sums.{IsSums}
 use Rattle.pyd_grammar.specs.Limits.{longest_source}
 use Rattle.pyd_scope.specs.declared.program.Program.{Program}
 use Rattle.pyd_source.proofs.Prefixes.{added_none}
@@ -12,7 +11,6 @@ use Rattle.pydron.specs.declared.mode.Mode.{Mode}
 use Rattle.pydron.specs.declared.mode.Mode.TheVariants as mode
 use Rattle.pydron.specs.declared.source_stop.SourceStop.{SourceStop}
 use Rattle.pydron.specs.declared.source_stop.SourceStop.TheVariants as stop
-use Rattle.pydron.specs.declared.status.Status.TheVariants as status
 use Rattle.pydron.specs.declared.conclusion.Conclusion.{Conclusion}
 use Rattle.pydron.specs.declared.conclusion.Conclusion.TheVariants as conclusion
 use Rattle.pydron.specs.Accepts.{Fits, Accepted, IsRefused}
@@ -20,8 +18,7 @@ use Rattle.pydron.specs.Checking.{summary}
 use Rattle.pydron.specs.Conclusion.{PutsAll, PutsPart, FailsToPut, Concludes, ConcludesRead}
 use Rattle.pydron.specs.Modes.{Choose, Makes, Made}
 use Rattle.pydron.specs.Refusals.{stopped_by, Refuses}
-use Rattle.pydron.specs.Running.{output_of, named_end, script_end, end_in, FirstOther, Settles}
-use Rattle.pydron.specs.Statuses.{status_of}
+use Rattle.pydron.specs.Running.{output_of, named_end, script_end, end_in, IsEvaluated}
 use Rattle.pydron.specs.Streams.{Stream, HasFailed, Gained, GainedPart, IsRead}
 
 -- what a mode makes for words that choose it
@@ -40,36 +37,28 @@ ended words input source out ending.Finished puts = puts
 ended words input source out (ending.Raised kind line) puts = puts
 ended words input source out (ending.Limit l line) puts = puts
 
--- what `run` makes of an accepted file of sums
-runs : (input : List ℕ) (p : Program) → Fits input → Accepted input p → IsSums p.file → Makes mode.Run input (output_of p.file) (end_in p.file)
-runs input p fits accepted sums =
-    inl (record { program = p; fits = fits; accepted = accepted; sums = sums; output_is = refl; conclusion_is = refl })
+-- what `run` makes of an accepted source
+pub runs : (input : List ℕ) (p : Program) → Fits input → Accepted input p → Makes mode.Run input (output_of p.file) (end_in p.file)
+runs input p fits accepted =
+    inl (record { program = p; fits = fits; accepted = accepted; output_is = refl; conclusion_is = refl })
 
--- an accepted file of sums that is settled
-pub settled : (input : List ℕ) (p : Program) (out : Stream) (c : Conclusion) → Fits input → Accepted input p → IsSums p.file → Settles p.file out c → ConcludesRead mode.Run input out c
-settled input p out c fits accepted sums (inl (is, put)) words source chosen read =
+-- an accepted source whose script was evaluated
+pub evaluated : (input : List ℕ) (p : Program) (out : Stream) (c : Conclusion) → Fits input → Accepted input p → IsEvaluated p.file out c → ConcludesRead mode.Run input out c
+evaluated input p out c fits accepted (inl (is, put)) words source chosen read =
     subst (λ d. Concludes words input source out d) (sym is)
     (ended words input source out (script_end p.file)
-    (record { output = output_of p.file; made = made words mode.Run input (output_of p.file) (end_in p.file) chosen (runs input p fits accepted sums); put = put; read = read }))
-settled input p out c fits accepted sums (inr (put, inl (is, failed))) words source chosen read =
+    (record { output = output_of p.file; made = made words mode.Run input (output_of p.file) (end_in p.file) chosen (runs input p fits accepted); put = put; read = read }))
+evaluated input p out c fits accepted (inr (put, inl (is, failed))) words source chosen read =
     subst (λ d. Concludes words input source out d) (sym is)
-    (fails words mode.Run input (output_of p.file) (end_in p.file) out chosen (runs input p fits accepted sums) put failed)
-settled input p out c fits accepted sums (inr (put, inr is)) words source chosen read =
+    (fails words mode.Run input (output_of p.file) (end_in p.file) out chosen (runs input p fits accepted) put failed)
+evaluated input p out c fits accepted (inr (put, inr is)) words source chosen read =
     let part : PutsPart words input out =
-    record { output = output_of p.file; conclusion = end_in p.file; made = made words mode.Run input (output_of p.file) (end_in p.file) chosen (runs input p fits accepted sums); put = put } in
+    record { output = output_of p.file; conclusion = end_in p.file; made = made words mode.Run input (output_of p.file) (end_in p.file) chosen (runs input p fits accepted); put = put } in
     let either : Gained out [] ⊎ PutsPart words input out = inr part in
     subst (λ d. Concludes words input source out d) (sym is) either
 
--- an accepted file with an item that isn't run yet, while nothing was put
-pub not_yet : (input : List ℕ) (p : Program) (line : ℕ) (out : Stream) → Fits input → Accepted input p → FirstOther p.file.items line → Gained out []
-    → ConcludesRead mode.Run input out (conclusion.NotYet line)
-not_yet input p line out fits accepted first put words source chosen read =
-    let makes : Makes mode.Run input [] (conclusion.NotYet line) =
-    inr (inl (record { program = p; line = line; fits = fits; accepted = accepted; first = first; output_is = refl; conclusion_is = refl })) in
-    record { output = []; made = made words mode.Run input [] (conclusion.NotYet line) chosen makes; put = put; read = read }
-
 -- what `check` makes of an accepted source
-approves : (input : List ℕ) (p : Program) → Fits input → Accepted input p → Makes mode.Check input (summary p) conclusion.Done
+pub approves : (input : List ℕ) (p : Program) → Fits input → Accepted input p → Makes mode.Check input (summary p) conclusion.Done
 approves input p fits accepted =
     inl (record { program = p; fits = fits; accepted = accepted; output_is = refl; conclusion_is = refl })
 
@@ -84,8 +73,8 @@ broken_off input p out fits accepted put failed words source chosen read =
     fails words mode.Check input (summary p) conclusion.Done out chosen (approves input p fits accepted) put failed
 
 -- every mode refuses a source that is refused
-refuses : (m : Mode) (input : List ℕ) (s : SourceStop) → IsRefused input s → Makes m input [] (stopped_by s)
-refuses mode.Run input s is = inr (inr (record { stop = s; refused = is; conclusion_is = refl; silent = refl }))
+pub refuses : (m : Mode) (input : List ℕ) (s : SourceStop) → IsRefused input s → Makes m input [] (stopped_by s)
+refuses mode.Run input s is = inr (record { stop = s; refused = is; conclusion_is = refl; silent = refl })
 refuses mode.Check input s is = inr (record { stop = s; refused = is; conclusion_is = refl; silent = refl })
 
 refused : (words : List (String Global)) (m : Mode) (input : List ℕ) (source out : Stream) (s : SourceStop) → IsRefused input s → Gained out [] → Choose words m → IsRead input source
@@ -102,16 +91,7 @@ stopped m input out stop.TooLong (inr is) put words source chosen read = refused
 stopped m input out (stop.Lex f) (inr is) put words source chosen read = refused words m input source out (stop.Lex f) is put chosen read
 stopped m input out (stop.Parse f) (inr is) put words source chosen read = refused words m input source out (stop.Parse f) is put chosen read
 stopped m input out (stop.Scope r) (inr is) put words source chosen read = refused words m input source out (stop.Scope r) is put chosen read
-stopped m input out (stop.NotYet line) (inr is) put words source chosen read = absurd is
 stopped m input out stop.NoMemory (inr is) put words source chosen read = absurd is
-
-pub stopped_unraised : (s : SourceStop) → status_of (stopped_by s) ≢ status.Raised
-stopped_unraised stop.TooLong is = cc
-stopped_unraised (stop.Lex f) is = cc
-stopped_unraised (stop.Parse f) is = cc
-stopped_unraised (stop.Scope r) is = cc
-stopped_unraised (stop.NotYet line) is = cc
-stopped_unraised stop.NoMemory is = cc
 
 -- no mode takes an input that is too long
 pub too_long : (m : Mode) (input : List ℕ) → longest_source < length input → Makes m input [] conclusion.TooLong
