@@ -153,7 +153,7 @@ pub fn pop_def(
     ensures rest { pieces.new ≡ drop 1 pieces.old }
 {
     match pop(pieces) {
-        Piece::Def { marks, func } => Ok((marks, func)),
+        Piece::Def { marks, func } => Ok((marks.into_inner(), func)),
         other => {
             drop(other);
             Ok((Stack::new(alloc), no_func(alloc)?))

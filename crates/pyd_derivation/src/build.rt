@@ -1,7 +1,7 @@
 //! The pieces of a derivation, from its last step to its first.
 ghost use Rattle.std.specs.Prelude.{◌≡◌, ◌∷◌, ◌≤◌, ◌<◌, length, drop, All, IfOk};
 ghost use Rattle.pyd_derivation.specs.Forms.{arity, apply};
-ghost use Rattle.pyd_derivation.specs.Makings.{action};
+ghost use Rattle.pyd_derivation.specs.Makings.{action, expression_action, file_action, statement_action};
 ghost use Rattle.pyd_derivation.specs.Productions.{grammar};
 ghost use Rattle.pyd_derivation.specs.Derivation.{line_of};
 ghost use Rattle.pyd_derivation.specs.Reading.{read_back, shifts, Back, MayBack, IsKnown};
@@ -13,7 +13,7 @@ use crate::items::{
     decorated, end, function, function_item, import, items, names, params, second, statement_item,
     stmts, suite,
 };
-use crate::making::{Making, making_of};
+use crate::making::{ExpressionMaking, FileMaking, Making, StatementMaking, making_of};
 use crate::operators::{
     bound, chain, compare, compared, link, not_in, power, sub, suffix, suffixed, unary, upper,
 };
@@ -25,7 +25,7 @@ use crate::statements::{
 };
 use pyd_lex::Token;
 use pyd_syntax::Step;
-use pyd_value::NoMemory;
+use pyd_value::{Boxed, NoMemory};
 use std::alloc::Global;
 
 /// The line of the token at this place.
@@ -39,72 +39,144 @@ fn line_at(tokens: &[Token], at: usize) -> u32
     }
 }
 
-/// What is made of the parts in front.
-fn make(
+/// What is made of the parts in front by a production of files, functions and suites.
+#[inline(never)]
+fn make_file(
+    alloc: Global,
+    bytes: &[u8],
+    making: FileMaking,
+    pieces: &mut Stack<Piece>,
+    line: u32,
+) -> Result<Piece, NoMemory>
+    ensures made { IfOk result (λ v. v ≡ apply (file_action making) bytes.now line pieces.old) }
+    ensures rest { IfOk result (λ _. pieces.new ≡ drop (arity (file_action making)) pieces.old) }
+{
+    match making {
+        FileMaking::End => Ok(end(alloc, pieces)),
+        FileMaking::Items => items(alloc, pieces),
+        FileMaking::StatementItem => statement_item(alloc, pieces),
+        FileMaking::FunctionItem => function_item(alloc, pieces),
+        FileMaking::Import => import(alloc, bytes, pieces, line),
+        FileMaking::Names => names(alloc, bytes, pieces, line),
+        FileMaking::Decorated => decorated(alloc, bytes, pieces, line),
+        FileMaking::Function => function(alloc, bytes, pieces, line),
+        FileMaking::Params => params(alloc, bytes, pieces, line),
+        FileMaking::Stmts => stmts(alloc, pieces),
+        FileMaking::Suite => suite(alloc, pieces),
+    }
+}
+
+/// The same by a production of statements.
+#[inline(never)]
+fn make_statement(
+    alloc: Global,
+    bytes: &[u8],
+    making: StatementMaking,
+    pieces: &mut Stack<Piece>,
+    line: u32,
+) -> Result<Piece, NoMemory>
+    ensures made { IfOk result (λ v. v
+        ≡ apply (statement_action making) bytes.now line pieces.old) }
+    ensures rest { IfOk result (λ _. pieces.new
+        ≡ drop (arity (statement_action making)) pieces.old) }
+{
+    match making {
+        StatementMaking::If => conditional(alloc, pieces, line),
+        StatementMaking::Elifs => elifs(alloc, pieces, line),
+        StatementMaking::While => while_loop(alloc, pieces, line),
+        StatementMaking::For => for_loop(alloc, bytes, pieces, line),
+        StatementMaking::Targets => more_targets(alloc, bytes, pieces, line),
+        StatementMaking::TargetComma => Ok(target_comma(alloc, pieces)),
+        StatementMaking::Simple => simple(alloc, pieces, line),
+        StatementMaking::Pass => pass_line(alloc, pieces, line),
+        StatementMaking::Break => break_line(alloc, pieces, line),
+        StatementMaking::Continue => continue_line(alloc, pieces, line),
+        StatementMaking::Return => return_line(alloc, pieces, line),
+        StatementMaking::Assert => assert_line(alloc, pieces, line),
+        StatementMaking::Assign => assign(alloc, pieces),
+        StatementMaking::Augment => augment(alloc, pieces),
+    }
+}
+
+/// The same by a production of expressions.
+#[inline(never)]
+fn make_expression(
+    alloc: Global,
+    bytes: &[u8],
+    making: ExpressionMaking,
+    pieces: &mut Stack<Piece>,
+    line: u32,
+) -> Result<Piece, NoMemory>
+    ensures made { IfOk result (λ v. v
+        ≡ apply (expression_action making) bytes.now line pieces.old) }
+    ensures rest { IfOk result (λ _. pieces.new
+        ≡ drop (arity (expression_action making)) pieces.old) }
+{
+    match making {
+        ExpressionMaking::Tests => tests(alloc, pieces),
+        ExpressionMaking::Comma => comma(alloc, pieces),
+        ExpressionMaking::Test => test(alloc, pieces),
+        ExpressionMaking::Condition => condition(alloc, pieces),
+        ExpressionMaking::Or => or_test(alloc, pieces),
+        ExpressionMaking::And => and_test(alloc, pieces),
+        ExpressionMaking::Member => member(alloc, pieces),
+        ExpressionMaking::Not => not_test(alloc, pieces),
+        ExpressionMaking::Compare => compare(alloc, pieces),
+        ExpressionMaking::Compared => compared(alloc, pieces),
+        ExpressionMaking::NotIn => not_in(alloc, pieces),
+        ExpressionMaking::Chain => chain(alloc, pieces),
+        ExpressionMaking::Link => link(alloc, pieces),
+        ExpressionMaking::Unary => unary(alloc, pieces),
+        ExpressionMaking::Power => power(alloc, pieces),
+        ExpressionMaking::Suffixed => suffixed(alloc, pieces),
+        ExpressionMaking::Suffix => suffix(alloc, pieces),
+        ExpressionMaking::Sub => sub(alloc, pieces),
+        ExpressionMaking::Upper => upper(alloc, pieces),
+        ExpressionMaking::Bound => Ok(bound(pieces)),
+        ExpressionMaking::Name => name(alloc, bytes, pieces, line),
+        ExpressionMaking::Int => int(alloc, pieces),
+        ExpressionMaking::Text => text(alloc, bytes, pieces, line),
+        ExpressionMaking::Constant => constant(alloc, pieces),
+        ExpressionMaking::Group => group(alloc, pieces),
+        ExpressionMaking::Arguments => arguments(alloc, pieces),
+    }
+}
+
+/// The parts in front become what is made of them.
+// Two productions in five are empty: they make a piece of nothing, and pay for no other's frame.
+fn expand(
     alloc: Global,
     bytes: &[u8],
     making: Making,
     pieces: &mut Stack<Piece>,
     line: u32,
-) -> Result<Piece, NoMemory>
-    ensures made { IfOk result (λ v. v ≡ apply (action making) bytes.now line pieces.old) }
-    ensures rest { IfOk result (λ _. pieces.new ≡ drop (arity (action making)) pieces.old) }
+) -> Result<(), NoMemory>
+    ensures { IfOk result (λ _. pieces.new
+        ≡ apply (action making) bytes.now line pieces.old
+        ∷ drop (arity (action making)) pieces.old) }
 {
     match making {
-        Making::Nothing => Ok(Piece::Nothing),
-        Making::Same => Ok(pop(pieces)),
-        Making::Second => Ok(second(pieces)),
-        Making::End => Ok(end(alloc, pieces)),
-        Making::Items => items(alloc, pieces),
-        Making::StatementItem => statement_item(alloc, pieces),
-        Making::FunctionItem => function_item(alloc, pieces),
-        Making::Import => import(alloc, bytes, pieces, line),
-        Making::Names => names(alloc, bytes, pieces, line),
-        Making::Decorated => decorated(alloc, bytes, pieces, line),
-        Making::Function => function(alloc, bytes, pieces, line),
-        Making::Params => params(alloc, bytes, pieces, line),
-        Making::Stmts => stmts(alloc, pieces),
-        Making::Suite => suite(alloc, pieces),
-        Making::If => conditional(alloc, pieces, line),
-        Making::Elifs => elifs(alloc, pieces, line),
-        Making::While => while_loop(alloc, pieces, line),
-        Making::For => for_loop(alloc, bytes, pieces, line),
-        Making::Targets => more_targets(alloc, bytes, pieces, line),
-        Making::TargetComma => Ok(target_comma(alloc, pieces)),
-        Making::Simple => simple(alloc, pieces, line),
-        Making::Pass => pass_line(alloc, pieces, line),
-        Making::Break => break_line(alloc, pieces, line),
-        Making::Continue => continue_line(alloc, pieces, line),
-        Making::Return => return_line(alloc, pieces, line),
-        Making::Assert => assert_line(alloc, pieces, line),
-        Making::Assign => assign(alloc, pieces),
-        Making::Augment => augment(alloc, pieces),
-        Making::Tests => tests(alloc, pieces),
-        Making::Comma => comma(alloc, pieces),
-        Making::Test => test(alloc, pieces),
-        Making::Condition => condition(alloc, pieces),
-        Making::Or => or_test(alloc, pieces),
-        Making::And => and_test(alloc, pieces),
-        Making::Member => member(alloc, pieces),
-        Making::Not => not_test(alloc, pieces),
-        Making::Compare => compare(alloc, pieces),
-        Making::Compared => compared(alloc, pieces),
-        Making::NotIn => not_in(alloc, pieces),
-        Making::Chain => chain(alloc, pieces),
-        Making::Link => link(alloc, pieces),
-        Making::Unary => unary(alloc, pieces),
-        Making::Power => power(alloc, pieces),
-        Making::Suffixed => suffixed(alloc, pieces),
-        Making::Suffix => suffix(alloc, pieces),
-        Making::Sub => sub(alloc, pieces),
-        Making::Upper => upper(alloc, pieces),
-        Making::Bound => Ok(bound(pieces)),
-        Making::Name => name(alloc, bytes, pieces, line),
-        Making::Int => int(alloc, pieces),
-        Making::Text => text(alloc, bytes, pieces, line),
-        Making::Constant => constant(alloc, pieces),
-        Making::Group => group(alloc, pieces),
-        Making::Arguments => arguments(alloc, pieces),
+        Making::Nothing => pieces.push(Piece::Nothing),
+        Making::Same => {
+            let piece = pop(pieces);
+            pieces.push(piece)
+        }
+        Making::Second => {
+            let piece = second(pieces);
+            pieces.push(piece)
+        }
+        Making::File(making) => {
+            let piece = make_file(alloc, bytes, making, pieces, line)?;
+            pieces.push(piece)
+        }
+        Making::Statement(making) => {
+            let piece = make_statement(alloc, bytes, making, pieces, line)?;
+            pieces.push(piece)
+        }
+        Making::Expression(making) => {
+            let piece = make_expression(alloc, bytes, making, pieces, line)?;
+            pieces.push(piece)
+        }
     }
 }
 
@@ -123,13 +195,12 @@ fn back(
 {
     match step {
         Step::Shift => {
-            pieces.push(Piece::Leaf(tokens[at - 1]))?;
+            pieces.push(Piece::Leaf(Boxed::new(alloc, tokens[at - 1])?))?;
             Ok(at - 1)
         }
         Step::Expand(production) => {
             let line = line_at(tokens, at);
-            let piece = make(alloc, bytes, making_of(production), pieces, line)?;
-            pieces.push(piece)?;
+            expand(alloc, bytes, making_of(production), pieces, line)?;
             Ok(at)
         }
     }

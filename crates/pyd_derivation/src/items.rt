@@ -137,6 +137,7 @@ pub fn decorated(
     skip(pieces);
     let (mut marks, func) = pop_def(alloc, pieces)?;
     marks.push((line, name))?;
+    let marks = Boxed::new(alloc, marks)?;
     Ok(Piece::Def { marks, func })
 }
 
@@ -168,10 +169,8 @@ pub fn function(
         body,
     };
     let func = Boxed::new(alloc, func)?;
-    Ok(Piece::Def {
-        marks: Stack::new(alloc),
-        func,
-    })
+    let marks = Boxed::new(alloc, Stack::new(alloc))?;
+    Ok(Piece::Def { marks, func })
 }
 
 /// A parameter, and those behind it.

@@ -10,7 +10,7 @@ use pyd_value::{Boxed, List, Text};
 pub enum Piece {
     /// What an optional part that is missing is read as.
     Nothing,
-    Leaf(Token),
+    Leaf(Boxed<Token>),
     Expr(Boxed<Expr>),
     /// Expressions that commas or one operator divide.
     Many(Stack<Expr>),
@@ -42,9 +42,12 @@ pub enum Piece {
     Params(Stack<(u32, Text)>),
     /// A function, and its decorators apart from it.
     Def {
-        marks: Stack<(u32, Text)>,
+        marks: Boxed<Stack<(u32, Text)>>,
         func: Boxed<Func>,
     },
     Item(Boxed<Item>),
     Items(Stack<Item>),
 }
+
+// A source of brackets has fourteen pieces for each pair at once, so what is wide lies in a box.
+const _: () = prove!(size_of::<Piece>() == 32);

@@ -33,7 +33,7 @@ pub fn pop_token(pieces: &mut Stack<Piece>) -> Token
     ensures rest { pieces.new ≡ drop 1 pieces.old }
 {
     match pop(pieces) {
-        Piece::Leaf(token) => token,
+        Piece::Leaf(token) => token.into_inner(),
         other => {
             drop(other);
             Token {
@@ -91,7 +91,7 @@ pub fn pop_tuple(alloc: Global, pieces: &mut Stack<Piece>) -> Result<Boxed<Expr>
     ensures rest { pieces.new ≡ drop 1 pieces.old }
 {
     match pop(pieces) {
-        Piece::Expr(expr) => Ok(expr),
+        Piece::Expr(only) => Ok(only),
         Piece::Many(many) => Boxed::new(alloc, Expr::Tuple(many.into_list(alloc)?)),
         Piece::Nothing => Boxed::new(alloc, Expr::Tuple(Items::new(alloc))),
         other => {

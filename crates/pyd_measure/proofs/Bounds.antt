@@ -116,8 +116,12 @@ found_only n q (f ∷ g) i zero h l e =
     let s : i ≡ q = eqb-true i q (when (eqb f.production.of n) (eqb i q) (and_parts _ _ h).0 (eq-eqb f.production.of n e)) in omega arith
 found_only n q (f ∷ g) i (suc p) h l e = let s = found_only n q g (suc i) p (and_parts _ _ h).1 (omega arith) e in omega arith
 
--- tests are the one production of their rule
-tests_only : only_at rule.tests 46 grammar 0 ≡ true
+-- the number of the production of tests
+abbrev tests_production : ℕ
+tests_production = 46
+
+-- tests have one production
+tests_only : only_at rule.tests tests_production grammar 0 ≡ true
 unfolding grammar
 tests_only = refl
 
@@ -125,7 +129,7 @@ tests_there : (p q : Piece) → is_there (action.as_tests p q) ≡ true
 tests_there p (piece.Many es) = refl
 tests_there p q = refl
 
-made_there : (bytes : List ℕ) (line : ℕ) (vs : List Piece) → is_there (apply (does grammar 46) bytes line vs) ≡ true
+made_there : (bytes : List ℕ) (line : ℕ) (vs : List Piece) → is_there (apply (does grammar tests_production) bytes line vs) ≡ true
 unfolding grammar
 made_there bytes line vs = tests_there (part vs 0) (part vs 1)
 
@@ -134,8 +138,8 @@ all_there bytes [] End d i e = cc
 all_there bytes (Terminal k ∷ ss) (Token_then t ds) d zero e = cc
 all_there bytes (Terminal k ∷ ss) (Token_then t ds) d (suc i) e = all_there bytes ss ds d.1 i e
 all_there bytes (Rule n ∷ ss) (Production_then p cs ds) d zero e =
-    let same : 0 + p ≡ 46 = found_only rule.tests 46 grammar 0 p tests_only d.0 (d.1 ∙ eqb-true n rule.tests e) in
-    let at : p ≡ 46 = omega arith in
+    let same : 0 + p ≡ tests_production = found_only rule.tests tests_production grammar 0 p tests_only d.0 (d.1 ∙ eqb-true n rule.tests e) in
+    let at : p ≡ tests_production = omega arith in
     subst (λ (z : ℕ). is_there (apply (does grammar z) bytes (line_of (leaves cs)) (values grammar bytes cs)) ≡ true) (sym at) (made_there bytes (line_of (leaves cs)) (values grammar bytes cs))
 all_there bytes (Rule n ∷ ss) (Production_then p cs ds) d (suc i) e = all_there bytes ss ds d.3 i e
 all_there bytes [] (Token_then t ds) d i e = absurd d

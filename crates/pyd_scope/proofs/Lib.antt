@@ -3,3 +3,9 @@ pub mod Finding
 pub mod Counting
 pub mod Outsides
 pub mod Firsts
+pub mod Resolved
+pub mod Few
+pub mod Within
+pub mod Knowing
+pub mod Rows
+pub mod Known

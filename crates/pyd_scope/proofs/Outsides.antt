@@ -29,7 +29,7 @@ among-lookup name (c ∷ cs) =
     [ true ↦ refl | false ↦ among-lookup name cs ]
 
 -- places counted from one more are one more
-position-suc : {X : Type 0} (t : X → Bool) (i : ℕ) (xs : List X) → position_from t (i + 1) xs ≡ option_map suc (position_from t i xs)
+pub position-suc : {X : Type 0} (t : X → Bool) (i : ℕ) (xs : List X) → position_from t (i + 1) xs ≡ option_map suc (position_from t i xs)
 position-suc t i [] = refl
 position-suc t i (x ∷ xs) =
     elim (t x) as (λ b. cond b (Some (i + 1)) (position_from t (i + 1 + 1) xs) ≡ option_map suc (cond b (Some i) (position_from t (i + 1) xs)))

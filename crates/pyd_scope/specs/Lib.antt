@@ -8,6 +8,8 @@ pub mod Checks
 pub mod ByRule
 pub mod Answers
 pub mod Places
+pub mod Resolving
+pub mod Tables
 pub mod Once
 pub mod Standings
 pub mod UseRules

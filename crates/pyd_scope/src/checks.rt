@@ -7,6 +7,7 @@ ghost use Rattle.pyd_scope.specs.Answers.{IsStop};
 
 use crate::refusals::refusal;
 use crate::routine::{add_item, add_module};
+use crate::tables::Tables;
 use crate::{CheckStop, Program, Routine};
 use pyd_names::constants;
 use pyd_tree::File;
@@ -41,10 +42,12 @@ fn program(alloc: Global, file: File) -> Result<Program, NoMemory>
 {
     let routines = routines(alloc, &file)?;
     let constants = constants(alloc, &file)?;
+    let tables = Tables::of(alloc, &file)?;
     Ok(Program {
         file,
         routines,
         constants,
+        tables,
     })
 }
 

@@ -13,15 +13,20 @@ mod parameters;
 mod program;
 mod refusal;
 mod refusals;
+mod resolve;
 mod routine;
 mod sightings;
 mod standing;
+mod table;
+mod tables;
+mod uses;
 mod words;
 
 pub use checks::check;
 pub use program::Program;
 pub use refusal::{CheckStop, Refusal};
 pub use routine::Routine;
+pub use uses::Use;
 
 #[cfg(test)]
 mod tests;

@@ -4,8 +4,10 @@ ghost use Rattle.pyd_names.specs.WellFormed.{IsWellFormed};
 ghost use Rattle.pyd_names.specs.Binding as names;
 ghost use Rattle.pyd_scope.specs.Checks as spec;
 ghost use Rattle.pyd_scope.specs.Parts as parts;
+ghost use Rattle.pyd_scope.specs.Tables.{AreTables};
 
 use crate::Routine;
+use crate::tables::Tables;
 use pyd_tree::File;
 use pyd_value::{List, Text, Value};
 
@@ -18,8 +20,11 @@ pub struct Program {
     pub routines: List<Routine>,
     /// `__name__`, and then the file's constants in text order, with their values.
     pub constants: List<(Text, Value)>,
+    /// What `resolve` knows of names without a search.
+    pub(crate) tables: Tables,
     ghost well_formed: { IsWellFormed file },
     ghost accepted: { spec.refusal file ≡ None },
     ghost its_routines: { routines ≡ parts.routines file },
     ghost its_constants: { constants ≡ names.constants file },
+    ghost its_tables: { AreTables file tables },
 }

@@ -5,9 +5,11 @@ ghost use Rattle.pyd_names.specs.Binding.{is_among};
 ghost use Rattle.pyd_scope.specs.declared.standing.Standing.TheVariants.{Unbound};
 ghost use Rattle.pyd_scope.specs.Rules as rule;
 ghost use Rattle.pyd_scope.specs.Standings as spec;
+ghost use Rattle.pyd_scope.specs.Tables as tables;
 
 use crate::marks::{add_imports, is_functional};
 use crate::names::Names;
+use crate::table::Known;
 use pyd_names::{builtin_named, constants, functions, module_variables};
 use pyd_tree::File;
 use pyd_value::{Builtin, NoMemory, Text};
@@ -96,6 +98,36 @@ impl Outside {
             Standing::Variable
         } else {
             Standing::Unbound
+        }
+    }
+
+    /// What is known of a name beside these locals.
+    pub fn known(&self, locals: &Names, name: &Text) -> Known
+        ensures { result ≡ tables.known_in self.now locals.now name.now }
+    {
+        if let Some(place) = locals.place(name) {
+            return Known::Slot(place);
+        }
+        if let Some(place) = self.constants.place(name) {
+            return Known::Constant(place);
+        }
+        match self.functions.place(name) {
+            Some(place) => Known::Routine(place),
+            None => self.known_beyond(name),
+        }
+    }
+
+    /// What is known of a name that is no local, no constant and no function.
+    fn known_beyond(&self, name: &Text) -> Known
+        ensures { result ≡ tables.known_beyond self.now name.now }
+    {
+        if self.imported.contains(name) {
+            return Known::Imported;
+        }
+        match builtin_named(name) {
+            Some(builtin) => Known::Builtin(builtin),
+            None if self.variables.contains(name) => Known::Variable,
+            None => Known::Unbound,
         }
     }
 

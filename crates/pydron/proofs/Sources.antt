@@ -1,5 +1,5 @@
 -- A source has one program or one refusal.
-use Rattle.std.proofs.Common.{◌≡◌, ◌⊎◌, ℕ, ◌<◌, ◌≤◌, List, length, refl, ap, sym, ◌∙◌, subst, arith, inl, inr, Option, Some, None, Result, Ok, Err}
+use Rattle.std.proofs.Common.{◌≡◌, ◌⊎◌, ℕ, ◌<◌, ◌≤◌, List, [], length, refl, ap, sym, ◌∙◌, subst, arith, inl, inr, Option, Some, None, Result, Ok, Err}
 use Rattle.std.proofs.lemmas.Bool.{cases_lt}
 use Rattle.pyd_lex.specs.declared.token.Token.{Token}
 use Rattle.pyd_lex.specs.declared.fault.LexFault.{LexFault}
@@ -14,6 +14,7 @@ use Rattle.pyd_scope.specs.declared.program.Program.{Program}
 use Rattle.pyd_scope.specs.declared.refusal.Refusal.{Refusal}
 use Rattle.pyd_scope.specs.Checks.{Parts, answer, refusal, parts, unless_refused}
 use Rattle.pyd_scope.specs.Parts.{routines}
+use Rattle.pyd_scope.specs.Tables.{AreTables}
 use Rattle.pyd_names.specs.Binding.{constants}
 use Rattle.pydron.specs.declared.source_stop.SourceStop.{SourceStop}
 use Rattle.pydron.specs.declared.source_stop.SourceStop.TheVariants as stop
@@ -101,6 +102,10 @@ not_both laws bytes p stop.NoMemory fits a r = r
 Answered : List ℕ → Type 0
 Answered bytes = ((p : Program) × Fits bytes × Accepted bytes p) ⊎ ((s : SourceStop) × IsRefused bytes s)
 
+-- no tables are those of any file
+no_tables : (f : File) → AreTables f []
+no_tables f = λ k entries at. cc
+
 checked : Laws → (bytes : List ℕ) (f : File) → Fits bytes → IsReadAs bytes f → (o : Option Refusal) → refusal f ≡ o → Answered bytes
 unfolding Answered
 checked laws bytes f fits read None is =
@@ -109,10 +114,12 @@ checked laws bytes f fits read None is =
         file = f;
         routines = routines f;
         constants = constants f;
+        tables = [];
         well_formed = laws.formed bytes read.tokens f read.reads fits read.parses.0;
         accepted = is;
         its_routines = refl;
         its_constants = refl;
+        its_tables = no_tables f;
       },
       fits,
       record { file = read; checks = ap (unless_refused (parts f)) is },
