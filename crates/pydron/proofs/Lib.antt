@@ -1,8 +1,8 @@
 pub mod Words
 pub mod Inputs
 pub mod Sources
-pub mod Sought
+pub mod Gathering
 pub mod Pieces
 pub mod Works
 pub mod Promises
-pub mod Settling
+pub mod Concluding

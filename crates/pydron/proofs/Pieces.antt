@@ -1,8 +1,13 @@
--- A part of three pieces that were put one after another.
-use Rattle.std.proofs.Common.{ℕ, List, ◌++◌, Option}
+-- A part of pieces that were put one after another.
+use Rattle.std.proofs.Common.{ℕ, List, ◌++◌, Option, Result, Ok, Err, OnErr}
 use Rattle.pyd_source.specs.Content.{Added, AddedPrefix}
 use Rattle.pyd_source.proofs.Moves.{added_more}
 use Rattle.pyd_source.proofs.Prefixes.{prefix_behind, prefix_front}
+
+-- a fact holds on an error too
+pub on_err : {T E P : Type 0} (r : Result T E) → P → OnErr r P
+on_err (Ok x) p = tt
+on_err (Err e) p = p
 
 pub part_of_first : (before after : Option (List ℕ)) (x y z : List ℕ) → AddedPrefix before x after → AddedPrefix before (x ++ (y ++ z)) after
 part_of_first before after x y z part = prefix_front before after x (y ++ z) part

@@ -18,7 +18,7 @@ use Rattle.pyd_scope.specs.Tables.{AreTables}
 use Rattle.pyd_names.specs.Binding.{constants}
 use Rattle.pydron.specs.declared.source_stop.SourceStop.{SourceStop}
 use Rattle.pydron.specs.declared.source_stop.SourceStop.TheVariants as stop
-use Rattle.pydron.specs.Accepts.{Fits, IsReadAs, Accepted, Misparses, Breaks, IsRefused}
+use Rattle.pydron.specs.Accepts.{Fits, IsReadAs, Accepted, Misparses, IsRefused}
 use Rattle.pydron.specs.Laws.{Same, OneAnswer}
 
 -- the laws of the lower crates
@@ -69,30 +69,25 @@ one_refusal laws bytes stop.TooLong stop.TooLong p q = refl
 one_refusal laws bytes stop.TooLong (stop.Lex g) p q = absurd (omega (arith, q.0))
 one_refusal laws bytes stop.TooLong (stop.Parse g) p q = absurd (omega (arith, q.0))
 one_refusal laws bytes stop.TooLong (stop.Scope g) p q = absurd (omega (arith, q.0))
-one_refusal laws bytes stop.TooLong (stop.NotYet n) p q = absurd q
 one_refusal laws bytes stop.TooLong stop.NoMemory p q = absurd q
 one_refusal laws bytes (stop.Lex f) stop.TooLong p q = absurd (omega (arith, p.0))
 one_refusal laws bytes (stop.Lex f) (stop.Lex g) p q =
     let both = laws.lexing bytes (Err f) (Err g) p.1 q.1 in ap stop.Lex cc
 one_refusal laws bytes (stop.Lex f) (stop.Parse g) p q = absurd (no_fault laws bytes q.1.tokens f q.1.reads p.1)
 one_refusal laws bytes (stop.Lex f) (stop.Scope g) p q = absurd (no_fault laws bytes q.1.read.tokens f q.1.read.reads p.1)
-one_refusal laws bytes (stop.Lex f) (stop.NotYet n) p q = absurd q
 one_refusal laws bytes (stop.Lex f) stop.NoMemory p q = absurd q
 one_refusal laws bytes (stop.Parse f) stop.TooLong p q = absurd (omega (arith, p.0))
 one_refusal laws bytes (stop.Parse f) (stop.Lex g) p q = absurd (no_fault laws bytes p.1.tokens g p.1.reads q.1)
 one_refusal laws bytes (stop.Parse f) (stop.Parse g) p q =
     let both = same_parse laws bytes p.1.tokens q.1.tokens (Err f) (Err g) p.1.reads q.1.reads p.1.parses q.1.parses in ap stop.Parse cc
 one_refusal laws bytes (stop.Parse f) (stop.Scope g) p q = absurd (no_misparse laws bytes q.1.file f q.1.read p.1)
-one_refusal laws bytes (stop.Parse f) (stop.NotYet n) p q = absurd q
 one_refusal laws bytes (stop.Parse f) stop.NoMemory p q = absurd q
 one_refusal laws bytes (stop.Scope f) stop.TooLong p q = absurd (omega (arith, p.0))
 one_refusal laws bytes (stop.Scope f) (stop.Lex g) p q = absurd (no_fault laws bytes p.1.read.tokens g p.1.read.reads q.1)
 one_refusal laws bytes (stop.Scope f) (stop.Parse g) p q = absurd (no_misparse laws bytes p.1.file g p.1.read q.1)
 one_refusal laws bytes (stop.Scope f) (stop.Scope g) p q =
     let both = same_answer laws bytes p.1.file q.1.file (Err f) (Err g) p.1.read q.1.read p.1.checks q.1.checks in ap stop.Scope cc
-one_refusal laws bytes (stop.Scope f) (stop.NotYet n) p q = absurd q
 one_refusal laws bytes (stop.Scope f) stop.NoMemory p q = absurd q
-one_refusal laws bytes (stop.NotYet n) t p q = absurd p
 one_refusal laws bytes stop.NoMemory t p q = absurd p
 
 pub not_both : Laws → (bytes : List ℕ) (p : Program) (s : SourceStop) → Fits bytes → Accepted bytes p → ¬ IsRefused bytes s
@@ -101,7 +96,6 @@ not_both laws bytes p (stop.Lex f) fits a r = no_fault laws bytes a.file.tokens 
 not_both laws bytes p (stop.Parse f) fits a r = no_misparse laws bytes p.file f a.file r.1
 not_both laws bytes p (stop.Scope g) fits a r =
     let both = same_answer laws bytes p.file r.1.file (Ok (record { routines = p.routines; constants = p.constants })) (Err g) a.file r.1.read a.checks r.1.checks in cc
-not_both laws bytes p (stop.NotYet n) fits a r = r
 not_both laws bytes p stop.NoMemory fits a r = r
 
 -- a program or a refusal

@@ -1,18 +1,18 @@
--- A mode makes one thing of an input.
-use Rattle.std.proofs.Common.{◌≡◌, ℕ, ◌-◌, List, [], length, refl, ap, ap₂, sym, ◌∙◌, subst, inl, inr}
-use Rattle.pyd_tree.specs.declared.file.File.{File}
+-- A mode makes one thing of each input.
+use Rattle.std.proofs.Common.{◌≡◌, ◌⊎◌, ℕ, ◌-◌, List, [], length, ap, ap₂, sym, ◌∙◌, inl, inr}
 use Rattle.pyd_scope.specs.declared.program.Program.{Program}
-use Rattle.pyd_core.specs.Sums.{IsSums}
 use Rattle.pydron.specs.declared.mode.Mode.{Mode}
 use Rattle.pydron.specs.declared.mode.Mode.TheVariants as mode
 use Rattle.pydron.specs.declared.conclusion.Conclusion.{Conclusion}
 use Rattle.pydron.specs.declared.conclusion.Conclusion.TheVariants as conclusion
+use Rattle.pydron.specs.declared.source_stop.SourceStop.{SourceStop}
+use Rattle.pydron.specs.Accepts.{Fits, Accepted, IsRefused}
 use Rattle.pydron.specs.Checking.{counts, summary, Approves, Checks}
 use Rattle.pydron.specs.Laws.{Same, OneAnswer, OneWork}
 use Rattle.pydron.specs.Modes.{Makes}
 use Rattle.pydron.specs.Refusals.{stopped_by, Refuses}
-use Rattle.pydron.specs.Running.{output_of, end_in, FirstOther, Evaluates, IsNotYet, Runs}
-use Rattle.pydron.proofs.Sought.{one_line, no_line}
+use Rattle.pydron.specs.Running.{output_of, end_in, Evaluates, Runs}
+use Rattle.pydron.proofs.Concluding.{runs, approves, refuses}
 
 one_refuse : OneAnswer → (input o p : List ℕ) (c d : Conclusion) → Refuses input o c → Refuses input p d → (o ≡ p) × (c ≡ d)
 one_refuse law input o p c d a b =
@@ -25,30 +25,11 @@ one_evaluation law input o p c d a b =
       a.conclusion_is ∙ ap end_in files ∙ sym b.conclusion_is,
     )
 
--- no file is of sums and isn't
-not_both : OneAnswer → (input o p : List ℕ) (c d : Conclusion) → Evaluates input o c → ¬ IsNotYet input p d
-not_both law input o p c d a b =
-    let files : a.program.file ≡ b.program.file = (law.program input a.program b.program a.accepted b.accepted).file in
-    no_line b.program.file.items b.line (subst IsSums files a.sums) b.first
-
-one_not_yet : OneAnswer → (input o p : List ℕ) (c d : Conclusion) → IsNotYet input o c → IsNotYet input p d → (o ≡ p) × (c ≡ d)
-one_not_yet law input o p c d a b =
-    let files : a.program.file ≡ b.program.file = (law.program input a.program b.program a.accepted b.accepted).file in
-    let lines : a.line ≡ b.line = one_line b.program.file.items a.line b.line (subst (λ (f : File). FirstOther f.items a.line) files a.first) b.first in (
-      a.output_is ∙ sym b.output_is,
-      a.conclusion_is ∙ ap conclusion.NotYet lines ∙ sym b.conclusion_is,
-    )
-
 one_run : OneAnswer → (input o p : List ℕ) (c d : Conclusion) → Runs input o c → Runs input p d → (o ≡ p) × (c ≡ d)
 one_run law input o p c d (inl a) (inl b) = one_evaluation law input o p c d a b
-one_run law input o p c d (inl a) (inr (inl b)) = absurd (not_both law input o p c d a b)
-one_run law input o p c d (inl a) (inr (inr b)) = absurd (law.either input a.program b.stop a.fits a.accepted b.refused)
-one_run law input o p c d (inr (inl a)) (inl b) = absurd (not_both law input p o d c b a)
-one_run law input o p c d (inr (inl a)) (inr (inl b)) = one_not_yet law input o p c d a b
-one_run law input o p c d (inr (inl a)) (inr (inr b)) = absurd (law.either input a.program b.stop a.fits a.accepted b.refused)
-one_run law input o p c d (inr (inr a)) (inl b) = absurd (law.either input b.program a.stop b.fits b.accepted a.refused)
-one_run law input o p c d (inr (inr a)) (inr (inl b)) = absurd (law.either input b.program a.stop b.fits b.accepted a.refused)
-one_run law input o p c d (inr (inr a)) (inr (inr b)) = one_refuse law input o p c d a b
+one_run law input o p c d (inl a) (inr b) = absurd (law.either input a.program b.stop a.fits a.accepted b.refused)
+one_run law input o p c d (inr a) (inl b) = absurd (law.either input b.program a.stop b.fits b.accepted a.refused)
+one_run law input o p c d (inr a) (inr b) = one_refuse law input o p c d a b
 
 -- programs with the same parts have the same summary
 one_summary : (p q : Program) → Same p q → summary p ≡ summary q
@@ -67,6 +48,19 @@ one_check law input o p c d (inl a) (inr b) = absurd (law.either input a.program
 one_check law input o p c d (inr a) (inl b) = absurd (law.either input b.program a.stop b.fits b.accepted a.refused)
 one_check law input o p c d (inr a) (inr b) = one_refuse law input o p c d a b
 
+same_work : OneAnswer → (m : Mode) (input o p : List ℕ) (c d : Conclusion) → Makes m input o c → Makes m input p d → (o ≡ p) × (c ≡ d)
+same_work law mode.Run input o p c d a b = one_run law input o p c d a b
+same_work law mode.Check input o p c d a b = one_check law input o p c d a b
+
+-- what a mode makes of an accepted source
+accepted_work : (m : Mode) (input : List ℕ) (p : Program) → Fits input → Accepted input p → (output : List ℕ) × (c : Conclusion) × Makes m input output c
+accepted_work mode.Run input p fits accepted = (output_of p.file, end_in p.file, runs input p fits accepted)
+accepted_work mode.Check input p fits accepted = (summary p, conclusion.Done, approves input p fits accepted)
+
+some_work : (m : Mode) (input : List ℕ) → ((p : Program) × Fits input × Accepted input p) ⊎ ((s : SourceStop) × IsRefused input s) → (output : List ℕ) × (c : Conclusion) × Makes m input output c
+some_work m input (inl (p, fits, accepted)) = accepted_work m input p fits accepted
+some_work m input (inr (s, refused)) = ([], stopped_by s, refuses m input s refused)
+
 pub one_work : OneAnswer → OneWork
-one_work law mode.Run input o p c d a b = one_run law input o p c d a b
-one_work law mode.Check input o p c d a b = one_check law input o p c d a b
+one_work law =
+    record { some = λ m input. some_work m input (law.some input); same = same_work law }

@@ -45,5 +45,4 @@ IsRefused bytes stop.TooLong = longest_source < length bytes
 IsRefused bytes (stop.Lex f) = Fits bytes × Reads bytes (Err f)
 IsRefused bytes (stop.Parse f) = Fits bytes × Misparses bytes f
 IsRefused bytes (stop.Scope r) = Fits bytes × Breaks bytes r
-IsRefused bytes (stop.NotYet line) = ⊥
 IsRefused bytes stop.NoMemory = ⊥

@@ -53,7 +53,6 @@ Concludes words input source out conclusion.TooLong = PutsAll words input conclu
 Concludes words input source out (conclusion.Lex f) = PutsAll words input (conclusion.Lex f) source out
 Concludes words input source out (conclusion.Parse f) = PutsAll words input (conclusion.Parse f) source out
 Concludes words input source out (conclusion.Scope r) = PutsAll words input (conclusion.Scope r) source out
-Concludes words input source out (conclusion.NotYet line) = PutsAll words input (conclusion.NotYet line) source out
 Concludes words input source out conclusion.ReadFault = FailsToRead words source out
 Concludes words input source out conclusion.SinkFault = FailsToPut words input out
 Concludes words input source out conclusion.NoMemory = Gained out [] ⊎ PutsPart words input out

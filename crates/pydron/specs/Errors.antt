@@ -82,7 +82,6 @@ error_of conclusion.TooLong = codes "REFUSED TooLong\n"
 error_of (conclusion.Lex f) = lex_line f
 error_of (conclusion.Parse f) = parse_line f
 error_of (conclusion.Scope r) = in_line (rule_text r) (line r)
-error_of (conclusion.NotYet n) = in_line (codes "REFUSED NotYet") n
 error_of conclusion.ReadFault = codes "FAULT read\n"
 error_of conclusion.SinkFault = codes "FAULT sink\n"
 error_of conclusion.NoMemory = codes "FAULT memory\n"

@@ -20,6 +20,7 @@ pub record OneAnswer : Type 0 where
   pub refusal : (bytes : List ℕ) (s t : SourceStop) → IsRefused bytes s → IsRefused bytes t → s ≡ t
   pub either : (bytes : List ℕ) (p : Program) (s : SourceStop) → Fits bytes → Accepted bytes p → ¬ IsRefused bytes s
 
--- a mode makes one output of an input, and concludes in one way
-abbrev pub OneWork : Type 0
-OneWork = (m : Mode) (input output other : List ℕ) (c d : Conclusion) → Makes m input output c → Makes m input other d → (output ≡ other) × (c ≡ d)
+-- a mode makes one thing of each input: an output and a conclusion
+pub record OneWork : Type 0 where
+  pub some : (m : Mode) (input : List ℕ) → (output : List ℕ) × (c : Conclusion) × Makes m input output c
+  pub same : (m : Mode) (input output other : List ℕ) (c d : Conclusion) → Makes m input output c → Makes m input other d → (output ≡ other) × (c ≡ d)

@@ -4,9 +4,9 @@ pub mod Conclusion
 pub mod Correct
 pub mod Errors
 pub mod Laws
+pub mod Lines
 pub mod Modes
 pub mod Refusals
 pub mod Running
-pub mod Seeking
 pub mod Statuses
 pub mod Streams

@@ -12,7 +12,6 @@ stopped_by stop.TooLong = conclusion.TooLong
 stopped_by (stop.Lex f) = conclusion.Lex f
 stopped_by (stop.Parse f) = conclusion.Parse f
 stopped_by (stop.Scope r) = conclusion.Scope r
-stopped_by (stop.NotYet line) = conclusion.NotYet line
 stopped_by stop.NoMemory = conclusion.NoMemory
 
 -- a source that is refused gives no output

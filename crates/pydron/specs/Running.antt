@@ -1,19 +1,14 @@
 -- Mode `run`: what it makes of an input.
-use Rattle.std.specs.Prelude.{◌≡◌, ◌⊎◌, ℕ, ◌≤◌, List, [], All, Any}
+use Rattle.std.specs.Prelude.{◌≡◌, ◌⊎◌, ℕ, List}
 use Rattle.pyd_value.specs.declared.fault.End.{End}
 use Rattle.pyd_value.specs.declared.fault.End.TheVariants as ending
 use Rattle.pyd_tree.specs.declared.file.File.{File}
-use Rattle.pyd_tree.specs.declared.file.Item.{Item}
-use Rattle.pyd_tree.specs.declared.file.Item.TheVariants as item
 use Rattle.pyd_meaning.specs.Defaults.{default_limits}
 use Rattle.pyd_meaning.specs.Module.{mean, end_of, bytes_of}
-use Rattle.pyd_core.specs.Sums.{PrintsSum, IsSums}
 use Rattle.pyd_scope.specs.declared.program.Program.{Program}
-use Rattle.pydron.specs.declared.source_stop.SourceStop.{SourceStop}
-use Rattle.pydron.specs.declared.source_stop.SourceStop.TheVariants as stop
 use Rattle.pydron.specs.declared.conclusion.Conclusion.{Conclusion}
 use Rattle.pydron.specs.declared.conclusion.Conclusion.TheVariants as conclusion
-use Rattle.pydron.specs.Accepts.{Fits, Accepted, IsRefused}
+use Rattle.pydron.specs.Accepts.{Fits, Accepted}
 use Rattle.pydron.specs.Refusals.{Refuses}
 use Rattle.pydron.specs.Streams.{Stream, HasFailed, Gained, GainedPart}
 
@@ -21,56 +16,34 @@ use Rattle.pydron.specs.Streams.{Stream, HasFailed, Gained, GainedPart}
 abbrev pub output_of : File → List ℕ
 output_of file = bytes_of (mean file default_limits).lines
 
+-- how a file ends under them
+abbrev pub script_end : File → End
+script_end file = end_of (mean file default_limits).result
+
 -- what the end of a script is called at the end of a call
 abbrev pub named_end : End → Conclusion
 named_end ending.Finished = conclusion.Done
 named_end (ending.Raised kind line) = conclusion.Raised kind line
 named_end (ending.Limit l line) = conclusion.Limit l line
 
--- how a file ends
-abbrev pub script_end : File → End
-script_end file = end_of (mean file default_limits).result
-
--- the same as it is called at the end of a call
+-- how a file ends, as it is called at the end of a call
 abbrev pub end_in : File → Conclusion
 end_in file = named_end (script_end file)
 
--- the line of an item
-abbrev pub line_of : Item → ℕ
-line_of (item.Import line from names) = line
-line_of (item.Def f) = f.line
-line_of (item.Stmt s) = s.line
-
--- the least line of an item that doesn't print a sum
-pub record FirstOther (items : List Item) (line : ℕ) : Type 0 where
-  pub there : Any (λ i. ¬ PrintsSum i × (line_of i ≡ line)) items
-  pub least : All (λ i. PrintsSum i ⊎ (line ≤ line_of i)) items
-
--- the output and the end of an accepted file of sums are those of its meaning
+-- the output and the end of an accepted file are those of its meaning
 pub record Evaluates (input output : List ℕ) (c : Conclusion) : Type 0 where
   pub program : Program
   pub fits : Fits input
   pub accepted : Accepted input program
-  pub sums : IsSums program.file
   pub output_is : output ≡ output_of program.file
   pub conclusion_is : c ≡ end_in program.file
 
--- an accepted file with another item isn't run yet
-pub record IsNotYet (input output : List ℕ) (c : Conclusion) : Type 0 where
-  pub program : Program
-  pub line : ℕ
-  pub fits : Fits input
-  pub accepted : Accepted input program
-  pub first : FirstOther program.file.items line
-  pub output_is : output ≡ []
-  pub conclusion_is : c ≡ conclusion.NotYet line
-
 -- what `run` makes of an input
 abbrev pub Runs : List ℕ → List ℕ → Conclusion → Type 0
-Runs input output c = Evaluates input output c ⊎ IsNotYet input output c ⊎ Refuses input output c
+Runs input output c = Evaluates input output c ⊎ Refuses input output c
 
--- how settling a file ends: with all that it prints put, or with some of it where the output failed or memory ran out
-abbrev pub Settles : File → Stream → Conclusion → Type 0
-Settles file out c =
+-- how evaluating a file ends: with all that it prints put, or with some of it where the output failed or memory ran out
+abbrev pub IsEvaluated : File → Stream → Conclusion → Type 0
+IsEvaluated file out c =
     ((c ≡ end_in file) × Gained out (output_of file))
     ⊎ (GainedPart out (output_of file) × (((c ≡ conclusion.SinkFault) × HasFailed out) ⊎ (c ≡ conclusion.NoMemory)))

@@ -15,7 +15,6 @@ status_of conclusion.TooLong = status.Refused
 status_of (conclusion.Lex f) = status.Refused
 status_of (conclusion.Parse f) = status.Refused
 status_of (conclusion.Scope r) = status.Refused
-status_of (conclusion.NotYet line) = status.Refused
 status_of conclusion.ReadFault = status.ReadFault
 status_of conclusion.SinkFault = status.SinkFault
 status_of conclusion.NoMemory = status.NoMemory

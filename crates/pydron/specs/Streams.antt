@@ -1,5 +1,5 @@
 -- What a call does to its source and its sinks.
-use Rattle.std.specs.Prelude.{◌≡◌, ℕ, ◌+◌, ◌<◌, ◌≤◌, List, [], length, Option, IfSome}
+use Rattle.std.specs.Prelude.{◌≡◌, ℕ, ◌+◌, ◌<◌, ◌≤◌, List, length, Option, IfSome}
 use Rattle.pyd_source.specs.Content.{Added, AddedPrefix, Emptied, TookExactly}
 use Rattle.pyd_source.specs.Faults.{Rose}
 use Rattle.pyd_grammar.specs.Limits.{longest_source}

@@ -1,17 +1,15 @@
 //! Mode `check`.
-ghost use Rattle.std.specs.Prelude.{◌≡◌, ◌≢◌, ◌≤◌, ◌<◌, ◌-◌, length, decimal, codes, ◌++◌, OnOk, OnErr, IsErr};
+ghost use Rattle.std.specs.Prelude.{◌≡◌, ◌≤◌, ◌<◌, ◌-◌, length, decimal, codes, ◌++◌, OnOk, OnErr, IsErr};
 ghost use Rattle.pyd_source.specs.Content.{Added, AddedPrefix};
 ghost use Rattle.pyd_source.specs.Faults.{Counted};
 ghost use Rattle.pydron.specs.declared.mode.Mode.TheVariants.{Check};
 ghost use Rattle.pydron.specs.Accepts.{Fits, Accepted};
 ghost use Rattle.pydron.specs.Checking.{summary};
 ghost use Rattle.pydron.specs.Conclusion.{ConcludesRead};
-ghost use Rattle.pydron.specs.Statuses.{status_of};
 ghost use Rattle.pydron.specs.Streams.{stream};
 
 use crate::check_source::check_source;
 use crate::conclusion::{Conclusion, stopped_by};
-use crate::status::Status;
 use itoa::Buffer;
 use pyd_scope::Program;
 use pyd_source::{Short, Sink, put_all};
@@ -23,7 +21,6 @@ pub(crate) fn check<K: Sink>(alloc: Global, bytes: &[u8], out: &mut K) -> Conclu
     ensures concludes { ConcludesRead Check bytes.now
         (stream (K.held out.old) (K.held out.new) (K.faults out.old) (K.faults out.new)) result }
     ensures count { K.faults out.old ≤ K.faults out.new }
-    ensures unraised { status_of result ≢ Status.Raised }
 {
     match check_source(alloc, bytes) {
         Ok(program) => approve(bytes, &program, out),
@@ -38,7 +35,6 @@ fn approve<K: Sink>(bytes: &[u8], program: &Program, out: &mut K) -> Conclusion
     ensures concludes { ConcludesRead Check bytes.now
         (stream (K.held out.old) (K.held out.new) (K.faults out.old) (K.faults out.new)) result }
     ensures count { K.faults out.old ≤ K.faults out.new }
-    ensures unraised { status_of result ≢ Status.Raised }
 {
     let _length = bytes.len();
     match put_summary(program, out) {

@@ -17,7 +17,7 @@ use std::alloc::Global;
 pub(crate) const LONGEST: usize = 1_048_576;
 
 /// The program of a source, or the first cause for which it is refused: its length, its tokens, the
-/// grammar, the rules of scope (docs/LANGUAGE.md). `NotYet` is never answered here.
+/// grammar, the rules of scope (docs/LANGUAGE.md).
 pub fn check_source(alloc: Global, bytes: &[u8]) -> Result<Program, SourceStop>
     ensures fits { IsOk result → Fits bytes.now }
     ensures ok { IfOk result (Accepted bytes.now) }

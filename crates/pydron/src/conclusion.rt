@@ -1,6 +1,7 @@
 //! Why a run ends as it does.
 ghost use Rattle.std.specs.Prelude.{◌≡◌};
-ghost use Rattle.pydron.specs.Refusals as spec;
+ghost use Rattle.pydron.specs.Refusals as refusals;
+ghost use Rattle.pydron.specs.Running as running;
 ghost use Rattle.pydron.specs.Statuses.{status_of};
 
 use crate::source_stop::SourceStop;
@@ -8,7 +9,7 @@ use crate::status::Status;
 use pyd_grammar::ParseFault;
 use pyd_lex::LexFault;
 use pyd_scope::Refusal;
-use pyd_value::{Kind, Limit};
+use pyd_value::{End, Kind, Limit};
 
 /// Why a run ends, with the line, counted from 1, where there is one.
 #[derive(Clone, Copy, Debug, PartialEq, Eq)]
@@ -29,8 +30,6 @@ pub enum Conclusion {
     Parse(ParseFault),
     /// Its file breaks a rule of scope.
     Scope(Refusal),
-    /// The item in this line is the first that isn't run so far.
-    NotYet(u32),
     ReadFault,
     SinkFault,
     NoMemory,
@@ -48,8 +47,7 @@ impl Conclusion {
             Conclusion::TooLong
             | Conclusion::Lex(_)
             | Conclusion::Parse(_)
-            | Conclusion::Scope(_)
-            | Conclusion::NotYet(_) => Status::Refused,
+            | Conclusion::Scope(_) => Status::Refused,
             Conclusion::ReadFault => Status::ReadFault,
             Conclusion::SinkFault => Status::SinkFault,
             Conclusion::NoMemory => Status::NoMemory,
@@ -59,14 +57,24 @@ impl Conclusion {
 
 /// What the refusal of a source is called at the end of a call.
 pub(crate) fn stopped_by(stop: SourceStop) -> Conclusion
-    ensures { result ≡ spec.stopped_by stop }
+    ensures { result ≡ refusals.stopped_by stop }
 {
     match stop {
         SourceStop::TooLong => Conclusion::TooLong,
         SourceStop::Lex(fault) => Conclusion::Lex(fault),
         SourceStop::Parse(fault) => Conclusion::Parse(fault),
         SourceStop::Scope(refusal) => Conclusion::Scope(refusal),
-        SourceStop::NotYet(line) => Conclusion::NotYet(line),
         SourceStop::NoMemory => Conclusion::NoMemory,
+    }
+}
+
+/// What the end of a script is called at the end of a call.
+pub(crate) fn named_end(end: End) -> Conclusion
+    ensures { result ≡ running.named_end end }
+{
+    match end {
+        End::Finished => Conclusion::Done,
+        End::Raised(kind, line) => Conclusion::Raised(kind, line),
+        End::Limit(limit, line) => Conclusion::Limit(limit, line),
     }
 }

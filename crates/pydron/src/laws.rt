@@ -12,7 +12,7 @@ pub fn one_answer()
     pyd_grammar::files_are_well_formed();
 }
 
-/// A mode makes one output of an input, and concludes in one way.
+/// A mode makes one thing of each input: an output and a conclusion.
 pub fn one_work()
     ensures { OneWork }
 {

@@ -5,6 +5,7 @@ mod check;
 mod check_source;
 mod conclusion;
 mod laws;
+mod lines;
 mod mode;
 mod report;
 mod run;

@@ -28,7 +28,6 @@ pub(crate) fn put_error<E: Sink>(err: &mut E, conclusion: Conclusion) -> Result<
         Conclusion::Lex(fault) => put_lex(err, fault),
         Conclusion::Parse(fault) => put_parse(err, fault),
         Conclusion::Scope(refusal) => put_in_line(err, rule_name(refusal), refusal.line()),
-        Conclusion::NotYet(line) => put_in_line(err, b"REFUSED NotYet", line),
         Conclusion::ReadFault => put_all(err, b"FAULT read\n"),
         Conclusion::SinkFault => put_all(err, b"FAULT sink\n"),
         Conclusion::NoMemory => put_all(err, b"FAULT memory\n"),

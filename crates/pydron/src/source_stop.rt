@@ -1,10 +1,10 @@
-//! Why a source isn't run.
+//! Why a source has no program.
 
 use pyd_grammar::ParseFault;
 use pyd_lex::LexFault;
 use pyd_scope::Refusal;
 
-/// Why a source has no program, or isn't run (docs/STATUS.md). Lines count from 1.
+/// Why a source has no program (docs/STATUS.md). Lines count from 1.
 #[derive(Clone, Copy, Debug, PartialEq, Eq)]
 pub enum SourceStop {
     /// It is longer than sources may be.
@@ -15,7 +15,5 @@ pub enum SourceStop {
     Parse(ParseFault),
     /// Its file breaks a rule of scope.
     Scope(Refusal),
-    /// The item in this line is the first that doesn't print a sum: the others aren't run so far.
-    NotYet(u32),
     NoMemory,
 }

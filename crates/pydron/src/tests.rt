@@ -1,14 +1,20 @@
 //! The program over memory: scripts, their output, error lines and statuses.
-ghost use Rattle.std.specs.Prelude.{◌≤◌, ◌-◌, ◌^◌, Contains, IfOk};
+ghost use Rattle.std.specs.Prelude.{◌≡◌, ◌≤◌, ◌-◌, ◌^◌, Contains, IfOk};
 
 mod rows;
+mod scripts;
+mod streams;
 
 use crate::{Status, check_source, pydron_here};
+use pyd_eval::module;
 use pyd_gen::make_source;
+use pyd_meaning::Limits;
 use pyd_source::{MemSink, MemSource, Source};
+use pyd_value::{End, Limit};
 use std::alloc::{AllocError, Global};
 use std::str;
 use std::test::Fail;
+use streams::{FAILING, Failing, Stream};
 
 const RUN: &[&str] = &["run"];
 
@@ -130,44 +136,79 @@ fn status_of(error: &str) -> Status {
         return Status::Done;
     }
     if error.starts_with("LIMIT") {
-        Status::Limit
-    } else {
+        return Status::Limit;
+    }
+    if error.starts_with("REFUSED") {
         Status::Refused
+    } else {
+        Status::Raised
     }
 }
 
+/// Whether mode `run` puts this output and this error line for a source, and reads it to its end.
+fn is_run(alloc: Global, source: &str, output: &str, error: &str) -> Result<bool, Fail> {
+    let source = unfolded(alloc, source)?;
+    let output = unfolded(alloc, output)?;
+    let error = unfolded(alloc, error)?;
+    let ran = run_over(alloc, RUN, source.as_bytes(), SMOOTH)?;
+    let status = status_of(error.as_str());
+    Ok(ran.left == 0 && gave(&ran, status, output.as_str(), error.as_str()))
+}
+
 #[test]
-fn sums_are_run_and_other_items_are_not_yet(rt: HostRuntime) -> Result<(), Fail> {
-    let alloc = rt.alloc();
-    for row in rows::RUNS.lines() {
+fn scripts_are_run(rt: HostRuntime) -> Result<(), Fail> {
+    for row in scripts::SCRIPTS.lines() {
         let (source, rest) = row.split_once('\u{2192}').unwrap_or((row, ""));
         let (output, error) = rest.split_once('\u{2192}').unwrap_or((rest, ""));
-        let source = unfolded(alloc, source)?;
-        let output = unfolded(alloc, output)?;
-        let error = unfolded(alloc, error)?;
-        let status = status_of(error.as_str());
-        let ran = run_over(alloc, RUN, source.as_bytes(), SMOOTH)?;
-        assert!(rt;
-            gave(&ran, status, output.as_str(), error.as_str()),
-            "{row}"
-        );
-        assert_eq!(rt; ran.left, 0, "{row}");
+        let right = is_run(rt.alloc(), source, output, error)?;
+        assert!(rt; right, "{row}");
     }
     Ok(())
 }
 
 #[test]
-fn a_whole_script_is_checked(rt: HostRuntime) -> Result<(), Fail> {
+fn a_whole_script_is_checked_and_run(rt: HostRuntime) -> Result<(), Fail> {
     let alloc = rt.alloc();
-    let ran = run_over(alloc, CHECK, rows::PIXELS.as_bytes(), SMOOTH)?;
-    assert!(rt; gave(&ran, Status::Done, "ok: 5 functions, 2 constants\n", ""));
-    let Ok(program) = check_source(alloc, rows::PIXELS.as_bytes()) else {
+    let checked = run_over(alloc, CHECK, scripts::PIXELS.as_bytes(), SMOOTH)?;
+    assert!(rt; gave(&checked, Status::Done, "ok: 5 functions, 2 constants\n", ""));
+    let ran = run_over(alloc, RUN, scripts::PIXELS.as_bytes(), SMOOTH)?;
+    assert!(rt; gave(&ran, Status::Done, scripts::PIXELS_OUTPUT, ""));
+    let Ok(program) = check_source(alloc, scripts::PIXELS.as_bytes()) else {
         return Err(Fail::new("a whole script"));
     };
     assert_eq!(rt; program.routines.len(), 6);
     assert_eq!(rt; program.constants.len(), 3);
-    let ran = run_over(alloc, CHECK, b"x\xff", SMOOTH)?;
+    Ok(())
+}
+
+#[test]
+fn bytes_that_are_no_text_are_refused(rt: HostRuntime) -> Result<(), Fail> {
+    let ran = run_over(rt.alloc(), CHECK, b"x\xff", SMOOTH)?;
     assert!(rt; gave(&ran, Status::Refused, "", "REFUSED Utf8: byte 1\n"));
+    Ok(())
+}
+
+/// Three turns serve the first loop; the second one wants a fourth.
+#[test]
+fn a_loop_may_make_all_its_turns(rt: HostRuntime) -> Result<(), Fail> {
+    let alloc = rt.alloc();
+    let source = unfolded(alloc, scripts::TURNS)?;
+    let Ok(program) = check_source(alloc, source.as_bytes()) else {
+        return Err(Fail::new("two loops"));
+    };
+    let limits = Limits {
+        turns: 3,
+        depth: 64,
+    };
+    let Ok(whole) = module(alloc, &program, limits) else {
+        return Err(Fail::new("memory for two loops"));
+    };
+    assert_eq!(rt; whole.end, End::Limit(Limit::Turn, 3));
+    let mut printed = String::new(alloc);
+    for line in whole.lines.as_slice() {
+        printed.push_str(line.as_str())?;
+    }
+    assert_eq!(rt; printed.as_str(), "012012");
     Ok(())
 }
 
@@ -199,7 +240,7 @@ fn is_within(ran: &Ran, lines: usize) -> bool {
 
 #[test]
 fn each_beginning_of_a_script_is_answered(rt: HostRuntime) -> Result<(), Fail> {
-    let source = rows::PIXELS.as_bytes();
+    let source = scripts::PIXELS.as_bytes();
     let mut lines = 1usize;
     for (end, byte) in source.iter().enumerate() {
         let (front, _) = source.split_at(end);
@@ -247,96 +288,81 @@ fn broke_off(ran: &Ran, output: (&str, usize), error: (&str, usize)) -> bool {
         && error.0.as_bytes().starts_with(&ran.error)
 }
 
-/// The most bytes that a call moves, and how many calls read the 12 bytes of `print(1 + 2)`.
-const TAKES: &[(usize, u32)] = &[(1, 13), (2, 7), (100, 2)];
-
-#[test]
-fn a_source_fails_at_each_call(rt: HostRuntime) -> Result<(), Fail> {
-    for (step, calls) in TAKES {
-        assert!(rt; *step > 0);
-        for call in 0..=*calls {
-            let course = Course {
-                step: *step,
-                source: Some(call),
-                ..SMOOTH
-            };
-            let ran = run_over(rt.alloc(), RUN, b"print(1 + 2)", course)?;
-            let right = if call < *calls {
-                gave(&ran, Status::ReadFault, "", "FAULT read\n")
-            } else {
-                gave(&ran, Status::Done, "3\n", "")
-            };
-            assert!(rt; right, "step {step}, call {call}");
+/// How many bytes were moved before this call, where there is one: each moves a step or the rest of
+/// a piece.
+fn moved(pieces: &[usize], step: usize, call: u32) -> Option<usize>
+    requires { 1 ≤ step }
+{
+    let mut before = 0usize;
+    let mut left = call as usize;
+    for piece in pieces {
+        let calls = (piece.saturating_sub(1) / step).saturating_add(1);
+        if left < calls {
+            return Some(before.saturating_add(left.saturating_mul(step)));
         }
+        left -= calls;
+        before = before.saturating_add(*piece);
     }
-    Ok(())
+    None
 }
 
-/// The most bytes that a call moves, and how many calls put the 6 bytes of `12345` and a newline.
-const PUTS: &[(usize, u32)] = &[(1, 6), (2, 3), (100, 1)];
-
-#[test]
-fn the_sink_for_output_fails_at_each_call(rt: HostRuntime) -> Result<(), Fail> {
-    for (step, calls) in PUTS {
-        assert!(rt; 0 < *step && *step <= 100);
-        for call in 0..=*calls {
-            let course = Course {
-                step: *step,
-                out: Some(call),
-                ..SMOOTH
-            };
-            let ran = run_over(rt.alloc(), RUN, b"print(12345)", course)?;
-            let gone = *step * (call % 100) as usize;
-            let right = if call < *calls {
-                broke_off(&ran, ("12345\n", gone), ("FAULT sink\n", 11))
-            } else {
-                gave(&ran, Status::Done, "12345\n", "")
-            };
-            assert!(rt; right, "step {step}, call {call}");
-        }
-    }
-    Ok(())
-}
-
-/// The most bytes that a call moves, and what is on the sink for errors at each call, where that
-/// call fails: the line is put as four pieces of 14, 7, 1 and 1 bytes.
-const SAID: &[(usize, &[usize])] = &[
-    (
-        1,
-        &[
-            0, 1, 2, 3, 4, 5, 6, 7, 8, 9, 10, 11, 12, 13, 14, 15, 16, 17, 18, 19, 20, 21, 22,
-        ],
-    ),
-    (2, &[0, 2, 4, 6, 8, 10, 12, 14, 16, 18, 20, 21, 22]),
-    (100, &[0, 14, 21, 22]),
-];
-
-#[test]
-fn the_sink_for_errors_fails_at_each_call(rt: HostRuntime) -> Result<(), Fail> {
-    for (step, said) in SAID {
-        assert!(rt; *step > 0);
-        let mut call = 0u32;
-        for gone in *said {
-            let course = Course {
-                step: *step,
-                err: Some(call),
-                ..SMOOTH
-            };
-            let ran = run_over(rt.alloc(), RUN, b"1", course)?;
-            let right = broke_off(&ran, ("", 0), ("REFUSED NotYet: line 1\n", *gone));
-            assert!(rt; right, "step {step}, call {call}");
-            call = call.saturating_add(1);
-        }
-        let course = Course {
-            step: *step,
-            err: Some(call),
+/// A course in which this call of this stream fails.
+fn course_of(stream: Stream, step: usize, call: u32) -> Course
+    ensures { result.step ≡ step }
+{
+    let failing = Some(call);
+    match stream {
+        Stream::Source => Course {
+            step,
+            source: failing,
             ..SMOOTH
-        };
-        let ran = run_over(rt.alloc(), RUN, b"1", course)?;
-        assert!(rt;
-            gave(&ran, Status::Refused, "", "REFUSED NotYet: line 1\n"),
-            "step {step}"
-        );
+        },
+        Stream::Out => Course {
+            step,
+            out: failing,
+            ..SMOOTH
+        },
+        Stream::Err => Course {
+            step,
+            err: failing,
+            ..SMOOTH
+        },
+    }
+}
+
+/// Whether a run with this call of its stream failing ends as it should, and as any other run where
+/// it makes no such call.
+fn is_broken_off(alloc: Global, row: &Failing, step: usize, call: u32) -> Result<bool, Fail>
+    requires { 1 ≤ step }
+{
+    let source = unfolded(alloc, row.source)?;
+    let course = course_of(row.stream, step, call);
+    let ran = run_over(alloc, &[row.word], source.as_bytes(), course)?;
+    let Some(gone) = moved(row.pieces, step, call) else {
+        return Ok(gave(&ran, row.status, row.output, row.error));
+    };
+    Ok(match row.stream {
+        Stream::Source => gave(&ran, Status::ReadFault, "", "FAULT read\n"),
+        Stream::Out => broke_off(&ran, (row.output, gone), ("FAULT sink\n", 11)),
+        Stream::Err => broke_off(&ran, (row.output, row.output.len()), (row.error, gone)),
+    })
+}
+
+const STEPS: &[usize] = &[1, 2, 100];
+
+/// No row makes more calls than this.
+const CALLS: u32 = 40;
+
+#[test]
+fn streams_fail_at_each_call(rt: HostRuntime) -> Result<(), Fail> {
+    for row in FAILING {
+        for step in STEPS {
+            assert!(rt; *step > 0);
+            for call in 0..CALLS {
+                let right = is_broken_off(rt.alloc(), row, *step, call)?;
+                assert!(rt; right, "{}: step {step}, call {call}", row.source);
+            }
+        }
     }
     Ok(())
 }

@@ -1,9 +1,8 @@
 //! The top call: from words and a source to output, an error line and a status.
-ghost use Rattle.std.specs.Prelude.{◌≢◌, ◌≤◌, ℕ, List};
+ghost use Rattle.std.specs.Prelude.{◌≤◌, ℕ, List};
 ghost use Rattle.pydron.specs.Conclusion.{Concludes, ConcludesRead, IsRunOf, Reports};
 ghost use Rattle.pydron.specs.Correct.{KeepsPromises};
 ghost use Rattle.pydron.specs.Accepts.{Fits};
-ghost use Rattle.pydron.specs.Statuses.{status_of};
 ghost use Rattle.pydron.specs.Streams.{stream, IsInput};
 
 use crate::check::check;
@@ -37,11 +36,8 @@ pub fn pydron_here<S: Source, K: Sink, E: Sink>(
         (stream (S.left source.old) (S.left source.new) (S.faults source.old) (S.faults source.new))
         (stream (K.held out) (K.held result.out) (K.faults out) (K.faults result.out))
         (stream (E.held err.old) (E.held err.new) (E.faults err.old) (E.faults err.new)) }
-
-    // No file that is run so far raises an exception.
-    ensures unraised { result.status ≢ Status.Raised }
 {
-    // That a mode makes one thing of an input is what makes the promises complete.
+    // That a mode makes one thing of an input is what makes the promises exact.
     one_work();
     let mut out = out;
     let conclusion = conclude(alloc, words, source, &mut out);
@@ -76,7 +72,6 @@ fn conclude<S: Source, K: Sink>(
         (stream (K.held out.old) (K.held out.new) (K.faults out.old) (K.faults out.new)) result }
     ensures source_count { S.faults source.old ≤ S.faults source.new }
     ensures out_count { K.faults out.old ≤ K.faults out.new }
-    ensures unraised { status_of result ≢ Status.Raised }
 {
     let Some(mode) = Mode::of(words) else {
         return Conclusion::Words;
@@ -95,7 +90,6 @@ fn serve<K: Sink>(alloc: Global, mode: Mode, bytes: &[u8], out: &mut K) -> Concl
     ensures concludes { ConcludesRead mode bytes.now
         (stream (K.held out.old) (K.held out.new) (K.faults out.old) (K.faults out.new)) result }
     ensures count { K.faults out.old ≤ K.faults out.new }
-    ensures unraised { status_of result ≢ Status.Raised }
 {
     match mode {
         Mode::Run => run(alloc, bytes, out),

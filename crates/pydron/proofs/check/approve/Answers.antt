@@ -1,5 +1,5 @@
 use Rattle.std.proofs.Common.{refl}
-use Rattle.pydron.proofs.Settling.{approved, broken_off}
+use Rattle.pydron.proofs.Concluding.{approved, broken_off}
 use Rattle.pydron.proofs.check.approve.Goals as goal
 
 pub returns-in-Ok-clause-concludes : goal.returns-in-Ok-clause-concludes

@@ -2,7 +2,7 @@ use Rattle.std.proofs.Common.{◌∙◌, subst}
 use Rattle.std.proofs.lemmas.Result.{on_err_weaker}
 use Rattle.pyd_source.specs.Content.{Added, AddedPrefix}
 use Rattle.pyd_source.proofs.Prefixes.{prefix_behind, prefix_front}
-use Rattle.pyd_core.proofs.Putting.{on_err}
+use Rattle.pydron.proofs.Pieces.{on_err}
 use Rattle.pydron.proofs.check.put_count.Goals as goal
 
 pub returns-in_err-put_all-clause-err : goal.returns-in_err-put_all-clause-err

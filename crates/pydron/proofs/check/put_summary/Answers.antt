@@ -1,7 +1,6 @@
 use Rattle.std.proofs.Common.{◌-◌, ◌++◌, length, codes, decimal}
 use Rattle.std.proofs.lemmas.Result.{on_ok_weaker, on_err_weaker}
-use Rattle.pyd_core.proofs.Putting.{on_err}
-use Rattle.pydron.proofs.Pieces.{part_of_first, part_of_second, part_of_third, all_three}
+use Rattle.pydron.proofs.Pieces.{on_err, part_of_first, part_of_second, part_of_third, all_three}
 use Rattle.pydron.proofs.check.put_summary.Goals as goal
 
 pub returns-in_err-put_all-clause-err : goal.returns-in_err-put_all-clause-err

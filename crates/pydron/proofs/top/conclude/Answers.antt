@@ -1,9 +1,8 @@
 use Rattle.std.proofs.Common.{◌≤◌, length, ap, refl, inl, arith, Err}
 use Rattle.pyd_source.proofs.Prefixes.{added_none}
-use Rattle.pydron.specs.declared.mode.Mode.TheVariants as mode
 use Rattle.pyd_grammar.specs.Limits.{longest_source}
 use Rattle.pydron.proofs.Inputs.{some_input, input_read, input_long, is_read, is_read_long}
-use Rattle.pydron.proofs.Settling.{too_long}
+use Rattle.pydron.proofs.Concluding.{too_long}
 use Rattle.pydron.proofs.top.conclude.Goals as goal
 
 pub returns-in_default-clause-concludes : goal.returns-in_default-clause-concludes

@@ -1,4 +1,4 @@
-use Rattle.pydron.proofs.Promises.{promises, unraised}
+use Rattle.pydron.proofs.Promises.{promises}
 use Rattle.pydron.proofs.top.pydron_here.Goals as goal
 
 pub returns-clause-run : goal.returns-clause-run
@@ -15,6 +15,3 @@ returns-clause-run g c =
 
 pub returns-clause-promises : goal.returns-clause-promises
 returns-clause-promises g c = promises c.one_work.ensures _ _ _ _ _ (returns-clause-run g c)
-
-pub returns-clause-unraised : goal.returns-clause-unraised
-returns-clause-unraised g c = unraised _ _ _ c.conclude-conclusion.ensures.unraised c.report.ensures.reports

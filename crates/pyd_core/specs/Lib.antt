@@ -1,3 +1,0 @@
-pub mod Sums
-pub mod Outcome
-pub mod Settling

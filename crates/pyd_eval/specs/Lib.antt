@@ -1,0 +1,13 @@
+pub mod Bound
+pub mod Calls
+pub mod Frames
+pub mod Given
+pub mod Junctions
+pub mod Left
+pub mod Measure
+pub mod Passed
+pub mod Small
+pub mod Steps
+pub mod Tails
+pub mod Turns
+pub mod Whole
