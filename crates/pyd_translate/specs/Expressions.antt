@@ -11,6 +11,7 @@ use Rattle.pyd_value.specs.declared.operator.Builtin.{Builtin}
 use Rattle.pyd_value.specs.declared.operator.Builtin.TheVariants as builtin
 use Rattle.pyd_tree.specs.declared.expression.Expr.{Expr, fold-Expr}
 use Rattle.pyd_tree.specs.declared.expression.Expr.TheOpen.{Expr-F, Suffix-F}
+use Rattle.pyd_tree.specs.declared.expression.Suffix.{Suffix, fold-Suffix}
 use Rattle.pyd_tree.specs.declared.file.File.{File}
 use Rattle.pyd_tree.specs.declared.file.Func.{Func}
 use Rattle.pyd_names.specs.Binding.{function, locals}
@@ -142,6 +143,33 @@ function_call (Some f) k at args =
 abbrev pub value_call : Context → Making Arg → Making (List Arg) → Making Arg
 value_call at callee args = callee >>> (λ v. args >>> (λ vs. stop_by at TypeError))
 
+-- how many expressions there are in the parts of one
+abbrev pub part_counts : Expr-F Unfolded UnfoldedSuffix → ℕ
+part_counts (Expr-F.Lit v) = 0
+part_counts (Expr-F.Name name) = 0
+part_counts (Expr-F.Tuple members) = counts members
+part_counts (Expr-F.Unary op e) = e.count
+part_counts (Expr-F.Chain first links) = first.count + operand_counts links
+part_counts (Expr-F.Power base exponent) = base.count + exponent.count
+part_counts (Expr-F.And members) = counts members
+part_counts (Expr-F.Or members) = counts members
+part_counts (Expr-F.Compare first links) = first.count + operand_counts links
+part_counts (Expr-F.If test first second) = first.count + (test.count + second.count)
+part_counts (Expr-F.Call name args) = counts args
+part_counts (Expr-F.Suffixed base suffixes) = base.count + total (map (λ s. s.count) suffixes)
+
+-- one level of what stands in brackets; of a slice the bounds that are there follow the base
+abbrev pub suffix_step : Suffix-F Unfolded UnfoldedSuffix → UnfoldedSuffix
+suffix_step (Suffix-F.Index e) = record {
+  count = e.count;
+  build = λ k at a. e.build k at >>> (λ i. operator code.Index (a ∷ i ∷ []) at);
+}
+suffix_step (Suffix-F.Slice low high) = record {
+  count = maybe_count low + maybe_count high;
+  build = λ k at a. bound low k at >>> (λ l. bound high (k + maybe_count low) at
+      >>> (λ h. operator (code.Slice (is_some low) (is_some high)) (a ∷ l ++ h) at));
+}
+
 module _ (file : File) where
   -- what a name stands for where nodes are made
   abbrev pub resolution_at : Context → List ℕ → Resolution
@@ -187,40 +215,17 @@ module _ (file : File) where
   build_parts (Expr-F.Suffixed base suffixes) whole k at =
       base.build k at >>> (λ a. suffixed suffixes (k + base.count) at a)
 
-  -- how many expressions there are in the parts of one
-  abbrev pub part_counts : Expr-F Unfolded UnfoldedSuffix → ℕ
-  part_counts (Expr-F.Lit v) = 0
-  part_counts (Expr-F.Name name) = 0
-  part_counts (Expr-F.Tuple members) = counts members
-  part_counts (Expr-F.Unary op e) = e.count
-  part_counts (Expr-F.Chain first links) = first.count + operand_counts links
-  part_counts (Expr-F.Power base exponent) = base.count + exponent.count
-  part_counts (Expr-F.And members) = counts members
-  part_counts (Expr-F.Or members) = counts members
-  part_counts (Expr-F.Compare first links) = first.count + operand_counts links
-  part_counts (Expr-F.If test first second) = first.count + (test.count + second.count)
-  part_counts (Expr-F.Call name args) = counts args
-  part_counts (Expr-F.Suffixed base suffixes) = base.count + total (map (λ s. s.count) suffixes)
-
   -- one level of an expression, whose parts have the numbers behind its own
   abbrev pub unfold_step : Expr-F Unfolded UnfoldedSuffix → Unfolded
   unfold_step e = record { count = suc (part_counts e); build = λ k at. build_parts e k (suc k) at }
 
-  -- one level of what stands in brackets; of a slice the bounds that are there follow the base
-  abbrev pub suffix_step : Suffix-F Unfolded UnfoldedSuffix → UnfoldedSuffix
-  suffix_step (Suffix-F.Index e) = record {
-    count = e.count;
-    build = λ k at a. e.build k at >>> (λ i. operator code.Index (a ∷ i ∷ []) at);
-  }
-  suffix_step (Suffix-F.Slice low high) = record {
-    count = maybe_count low + maybe_count high;
-    build = λ k at a. bound low k at >>> (λ l. bound high (k + maybe_count low) at
-        >>> (λ h. operator (code.Slice (is_some low) (is_some high)) (a ∷ l ++ h) at));
-  }
-
   -- an expression
   unfoldable pub unfolded : Expr → Unfolded
   unfolded = fold-Expr Unfolded UnfoldedSuffix unfold_step suffix_step
+
+  -- what stands in brackets
+  unfoldable pub unfolded_suffix : Suffix → UnfoldedSuffix
+  unfolded_suffix = fold-Suffix Unfolded UnfoldedSuffix unfold_step suffix_step
 
   -- the nodes of expression number k
   abbrev pub expression_unfolds : Expr → ℕ → Context → Making Arg

@@ -11,3 +11,4 @@ pub mod Walk
 pub mod Matching
 pub mod Laws
 pub mod Readings
+pub mod Rows

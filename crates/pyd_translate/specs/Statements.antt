@@ -80,7 +80,7 @@ set_members slots env id p [] = env
 set_members slots env id p (name ∷ names) =
     set_members slots (set_slot slots env name (From (port id p))) id (suc p) names
 
--- the slots with targets bound to an argument: one target takes the argument itself, and a tuple of targets is unpacked by a node
+-- the slots with targets bound to an argument: one target takes the argument itself, and for a tuple of targets a node unpacks it
 abbrev pub bind_targets : List (List ℕ) → Bool → List (List ℕ) → Context → Arg → Making (List Arg)
 bind_targets slots false (name ∷ []) at a = pure (set_slot slots at.env name a)
 bind_targets slots false [] at a = stop_by at ValueError
@@ -103,6 +103,10 @@ with_rest slots false k work at sequel =
 -- a line of a routine at a depth, with the arguments of the slots
 abbrev pub context : ℕ → ℕ → ℕ → List Arg → Context
 context routine depth line env = record { line = line; depth = depth; routine = routine; env = env }
+
+-- the same in another line
+abbrev pub in_line : ℕ → Context → Context
+in_line line at = context at.routine at.depth line at.env
 
 module _ (file : File) where
   -- the names of the slots where nodes are made
@@ -147,13 +151,14 @@ module _ (file : File) where
       then_done at.env (header e p at)
       (λ a. with_rest (slots_at at) early p.statement (work a) at sequel)
 
-  -- an `if` with the test of its first arm; one without an arm is its `else`
+  -- an `if` with the test of its first arm, in that arm's line; one without an arm is its `else`
   abbrev pub if_unfolds : List Arm → Bool → Point → Context → Sequel → Making Done
   if_unfolds [] early p at sequel =
       with_rest (slots_at at) early p.statement
       (λ rest. Cond (Known (Truth false)) p.statement 0 rest at.env) at sequel
   if_unfolds (a ∷ arms) early p at sequel =
-      headed_by (out-Arm a).test (λ t rest. Cond t p.statement 0 rest at.env) early p at sequel
+      headed_by (out-Arm a).test (λ t rest. Cond t p.statement 0 rest at.env) early p
+      (in_line (out-Arm a).line at) sequel
 
   -- a statement that begins at a place and may leave its block early; a loop has made no turn
   abbrev pub what_unfolds : What-F What Arm Block Stmt → Bool → Point → Context → Sequel
@@ -178,7 +183,7 @@ module _ (file : File) where
       >>> asserted message (past_expression test p).expression at) sequel.next
 
   module _ (routine depth : ℕ) where
-    -- statements that begin at a point, and then the rest
+    -- statements that begin at a place, and then the rest
     unfoldable pub stmts_unfold : List Stmt → Point → List Frame → (Exit → Onward) → Onward
     stmts_unfold [] p rest leave env = leave Normal env
     stmts_unfold (s ∷ ss) p rest leave env =
