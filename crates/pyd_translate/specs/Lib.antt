@@ -1,0 +1,14 @@
+pub mod Numbers
+pub mod Compounds
+pub mod Making
+pub mod Slots
+pub mod Expressions
+pub mod Sides
+pub mod Statements
+pub mod Rests
+pub mod Starts
+pub mod Walk
+pub mod Matching
+pub mod Laws
+pub mod Readings
+pub mod Rows
