@@ -23,6 +23,3 @@ mod suffixes;
 
 pub use pyd_meaning::{Limits, Ran};
 pub use script::{Whole, call, module};
-
-#[cfg(test)]
-mod tests;
