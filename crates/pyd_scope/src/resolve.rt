@@ -152,6 +152,3 @@ fn imports(item: &Item, name: &Text) -> bool
         Item::Def(_) | Item::Stmt(_) => false,
     }
 }
-
-#[cfg(test)]
-mod tests;
