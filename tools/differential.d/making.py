@@ -61,9 +61,11 @@ def changed(random):
 
 
 def has_derivation(source):
-    """Whether a script that CPython parses has one here too: loops have no `else`."""
-    loops = [node for node in ast.walk(ast.parse(source)) if isinstance(node, (ast.While, ast.For))]
-    return not any(loop.orelse for loop in loops)
+    """Whether a script that CPython parses has one here too: loops have no `else`, and only a name is called."""
+    nodes = list(ast.walk(ast.parse(source)))
+    loops = [node for node in nodes if isinstance(node, (ast.While, ast.For))]
+    calls = [node for node in nodes if isinstance(node, ast.Call)]
+    return not any(loop.orelse for loop in loops) and all(isinstance(call.func, ast.Name) for call in calls)
 
 
 def other_name(random, source):
