@@ -1,4 +1,6 @@
 pub mod Numbers
+pub mod Numbering
+pub mod Passages
 pub mod Least
 pub mod Jumps
 pub mod Leaving

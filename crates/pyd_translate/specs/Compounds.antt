@@ -1,6 +1,5 @@
 -- The statement of a number, by its parts where it is compound.
-use Rattle.std.specs.Prelude.{ℕ, List, [], ◌∷◌, Option, Some, None}
-use Rattle.std.specs.List.{slice_get}
+use Rattle.std.specs.Prelude.{ℕ, List, [], ◌∷◌, Option}
 use Rattle.pyd_tree.specs.declared.expression.Expr.{Expr}
 use Rattle.pyd_tree.specs.declared.statement.What.{What, out-What}
 use Rattle.pyd_tree.specs.declared.statement.What.TheOpen.{What-F}
@@ -9,7 +8,8 @@ use Rattle.pyd_tree.specs.declared.statement.Block.{Block}
 use Rattle.pyd_tree.specs.declared.statement.Stmt.{Stmt}
 use Rattle.pyd_tree.specs.declared.statement.Targets.{Targets}
 use Rattle.pyd_tree.specs.declared.file.File.{File}
-use Rattle.pyd_translate.specs.Numbers.{Entry, Point, point, table, past_statement}
+use Rattle.pyd_scope.specs.Numbering.{Point, past_statement}
+use Rattle.pyd_scope.specs.Passages.{Passage, passage_at}
 
 -- an `if`, a loop, or a statement that isn't compound
 pub data Compound : Type 0 where
@@ -51,20 +51,6 @@ behind (s ∷ ss) = ss
 abbrev pub past_first : List Stmt → Point → Point
 past_first [] p = p
 past_first (s ∷ ss) p = past_statement s p
-
--- statements of one block that begin at a place
-pub record Passage : Type 0 where
-  pub stmts : List Stmt
-  pub point : Point
-
--- the statements of an entry with this number; a number that has none names no statement
-abbrev pub entry_passage : Option Entry → ℕ → Passage
-entry_passage (Some e) k = record { stmts = e.stmts; point = point k e.expression }
-entry_passage None k = record { stmts = []; point = point k 0 }
-
--- statement k of a routine, with those that follow it in its block
-abbrev pub passage_at : File → ℕ → ℕ → Passage
-passage_at file routine k = entry_passage (slice_get (table file routine) k) k
 
 -- what follows the first statement of a passage
 abbrev pub passage_behind : Passage → Passage

@@ -1,12 +1,13 @@
 -- What the pieces of statements and of sides do, and how their nodes are numbered.
-use Rattle.std.specs.Prelude.{◌≡◌, ℕ, ◌+◌, ◌*◌, ◌<◌, List, [], ◌∷◌, ◌++◌, length, drop, Option, Some, None}
+use Rattle.std.specs.Prelude.{◌≡◌, ℕ, ◌+◌, ◌*◌, List, [], ◌++◌, length, drop, Option, Some, None}
+use Rattle.pyd_tree.specs.declared.expression.Expr.{Expr}
 use Rattle.pyd_tree.specs.declared.file.File.{File}
 use Rattle.pyd_names.specs.Binding.{locals, module_variables}
 use Rattle.pyd_meaning.specs.declared.limits.Limits.{Limits}
-use Rattle.pyd_meaning.specs.Evaluation.{Evaluation, ◌>>=◌}
+use Rattle.pyd_meaning.specs.Evaluation.{◌>>=◌}
 use Rattle.pyd_meaning.specs.Names.{Names}
 use Rattle.pyd_meaning.specs.Setting.{place_of}
-use Rattle.pyd_meaning.specs.Completion.{Reached}
+use Rattle.pyd_meaning.specs.Expression.{meaning_of}
 use Rattle.pyd_meaning.specs.Module.{setting_at, mean}
 use Rattle.pyd_ir.specs.declared.arg.Arg.{Arg}
 use Rattle.pyd_ir.specs.declared.work.Frame.{Frame}
@@ -14,11 +15,12 @@ use Rattle.pyd_ir.specs.declared.work.Side.{Side}
 use Rattle.pyd_ir.specs.Arguments.{rest_arguments, side_arguments}
 use Rattle.pyd_ir.specs.Inputs.{Given}
 use Rattle.pyd_translate.specs.Making.{Piece}
-use Rattle.pyd_translate.specs.Numbers.{contents, table, expression_table, body, start}
+use Rattle.pyd_scope.specs.Numbering.{contents, expressions, table, expression_table, body, start}
 use Rattle.pyd_translate.specs.declared.at.Start.{Start}
-use Rattle.pyd_translate.specs.Compounds.{Passage}
+use Rattle.pyd_scope.specs.Passages.{Passage}
 use Rattle.pyd_translate.specs.Starts.{passage}
 use Rattle.pyd_translate.specs.Slots.{unbound_slots}
+use Rattle.pyd_translate.specs.Expressions.{expression_unfolds}
 use Rattle.pyd_translate.specs.Sides.{side_unfolds}
 use Rattle.pyd_translate.specs.Statements.{Done, context}
 use Rattle.pyd_translate.specs.Rests.{block_unfolds}
@@ -41,6 +43,16 @@ pub record IsPlaced (file : File) (routine : ℕ) (here : Passage) : Type 0 wher
 -- the statements at each start stand in their routine at their place
 abbrev pub StartLaw : Type 0
 StartLaw = (file : File) (routine : ℕ) (s : Start) → IsPlaced file routine (passage file routine s)
+
+-- the nodes of an expression that stands in its routine at its number do what it means
+abbrev pub ExpressionLaw : Type 0
+ExpressionLaw = (file : File) (limits : Limits) (routine depth line : ℕ) (e : Expr) (k ids : ℕ)
+    (given : Given) (env : List Arg) (names : Names)
+    → Stands (expression_table file routine) k (expressions e)
+    → AreSlots (locals file routine) ids given env names
+    → Matches file limits 0 ids given
+    (expression_unfolds file e k (context routine depth line env) ids)
+    (meaning_of (setting_at file limits routine depth) e (place_of line) names) HasValue
 
 -- the nodes of statements and of what goes on behind them do what these mean, and count 2 steps more for each frame
 abbrev pub BlockLaw : Type 0

@@ -1,4 +1,3 @@
-pub mod Numbers
 pub mod Compounds
 pub mod Making
 pub mod Slots
@@ -9,6 +8,10 @@ pub mod Rests
 pub mod Starts
 pub mod Walk
 pub mod Matching
+pub mod Naming
 pub mod Laws
 pub mod Readings
 pub mod Rows
+pub mod Counts
+pub mod Nested
+pub mod Purity

@@ -4,7 +4,7 @@ use Rattle.pyd_value.specs.declared.fault.Fault.{Fault}
 use Rattle.pyd_tree.specs.declared.expression.Expr.{Expr}
 use Rattle.pyd_tree.specs.declared.expression.Expr.TheOpen.{Expr-F}
 use Rattle.pyd_translate.specs.Making.{Making, Context, stop, ◌>>>◌}
-use Rattle.pyd_translate.specs.Numbers.{Within, parts}
+use Rattle.pyd_scope.specs.Numbering.{Within, parts}
 
 -- of a conditional expression the first side is numbered before the test, and the second behind it
 abbrev pub ConditionalOrder : Type 0

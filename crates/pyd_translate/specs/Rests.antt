@@ -7,8 +7,9 @@ use Rattle.pyd_ir.specs.declared.work.Frame.{Frame}
 use Rattle.pyd_ir.specs.declared.work.Frame.TheVariants.{After, Again}
 use Rattle.pyd_ir.specs.declared.work.Work.TheVariants.{While, For}
 use Rattle.pyd_translate.specs.Making.{Making, Context, emit, ◌>>>◌}
-use Rattle.pyd_translate.specs.Numbers.{Point}
-use Rattle.pyd_translate.specs.Compounds.{Compound, Choice, WhileLoop, ForLoop, Simple, first_compound, first_line, Passage, passage_at, passage_behind}
+use Rattle.pyd_scope.specs.Numbering.{Point}
+use Rattle.pyd_scope.specs.Passages.{Passage, passage_at}
+use Rattle.pyd_translate.specs.Compounds.{Compound, Choice, WhileLoop, ForLoop, Simple, first_compound, first_line, passage_behind}
 use Rattle.pyd_translate.specs.Expressions.{expression_unfolds}
 use Rattle.pyd_translate.specs.Statements.{Done, Exit, Normal, Break, Continue, Onward, finished, then_done, ported, context, stmts_unfold}
 

@@ -1,5 +1,5 @@
 -- Small expressions, whose nodes are computed.
-use Rattle.std.specs.Prelude.{◌≡◌, ℕ, List, [], ◌∷◌, pos, Bool, true, false, Some, None}
+use Rattle.std.specs.Prelude.{◌≡◌, ℕ, List, [], ◌∷◌, pos, true, false, Some, None}
 use Rattle.pyd_value.specs.declared.value.Value.{Int}
 use Rattle.pyd_value.specs.declared.value.Value.TheVariants as value
 use Rattle.pyd_value.specs.declared.operator.BinOp.TheVariants.{Add, Sub}
@@ -13,7 +13,6 @@ use Rattle.pyd_ir.specs.declared.arg.Arg.TheVariants.{Known, From, Slot}
 use Rattle.pyd_ir.specs.declared.code.OpCode.TheVariants.{Binary, Compare, Slice}
 use Rattle.pyd_ir.specs.declared.node.Node.{Node}
 use Rattle.pyd_ir.specs.declared.work.Side.TheVariants as side
-use Rattle.pyd_ir.specs.declared.work.Work.{Work}
 use Rattle.pyd_ir.specs.declared.work.Work.TheVariants.{Op, Pick}
 use Rattle.pyd_translate.specs.Making.{Context, node_of, port}
 use Rattle.pyd_translate.specs.Expressions.{unfolded}

@@ -11,7 +11,7 @@ use Rattle.pyd_ir.specs.declared.arg.Arg.{Arg}
 use Rattle.pyd_ir.specs.declared.work.Side.{Side}
 use Rattle.pyd_ir.specs.declared.work.Side.TheVariants as side
 use Rattle.pyd_translate.specs.Making.{Making, Context, pure, stop_by}
-use Rattle.pyd_translate.specs.Numbers.{expression_table}
+use Rattle.pyd_scope.specs.Numbering.{expression_table}
 use Rattle.pyd_translate.specs.Expressions.{Unfolded, unfolded, expression_unfolds, counts, operand_counts, conjunction, disjunction, compared}
 
 module _ (file : File) where

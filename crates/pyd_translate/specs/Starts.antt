@@ -1,5 +1,5 @@
 -- The statements at a start, and the nodes of a block and of a side as one piece.
-use Rattle.std.specs.Prelude.{ℕ, List, [], ◌∷◌, take, Option, Some, None}
+use Rattle.std.specs.Prelude.{ℕ, List, [], take, Option, Some, None}
 use Rattle.std.specs.List.{slice_get}
 use Rattle.pyd_tree.specs.declared.statement.Arm.{Arm, out-Arm}
 use Rattle.pyd_tree.specs.declared.statement.Block.{Block, out-Block}
@@ -13,8 +13,9 @@ use Rattle.pyd_translate.specs.declared.at.Start.{Start}
 use Rattle.pyd_translate.specs.declared.at.Start.TheVariants as at
 use Rattle.pyd_translate.specs.declared.piece.Piece.{Piece}
 use Rattle.pyd_translate.specs.Making as making
-use Rattle.pyd_translate.specs.Numbers.{Point, start, body, past, past_expression, inside, arms_contents}
-use Rattle.pyd_translate.specs.Compounds.{Compound, Choice, WhileLoop, ForLoop, Simple, first_compound, Passage, passage_at}
+use Rattle.pyd_scope.specs.Numbering.{Point, start, body, past, past_expression, inside, arms_contents}
+use Rattle.pyd_scope.specs.Passages.{Passage, passage_at}
+use Rattle.pyd_translate.specs.Compounds.{Compound, Choice, WhileLoop, ForLoop, Simple, first_compound}
 use Rattle.pyd_translate.specs.Sides.{side_unfolds}
 use Rattle.pyd_translate.specs.Statements.{Done, done, context}
 use Rattle.pyd_translate.specs.Rests.{block_unfolds}

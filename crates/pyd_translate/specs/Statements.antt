@@ -1,5 +1,5 @@
 -- The nodes of statements, one behind the other.
-use Rattle.std.specs.Prelude.{ℕ, zero, suc, List, [], ◌∷◌, ◌++◌, length, Bool, true, false, ◌||◌, Option, Some, None}
+use Rattle.std.specs.Prelude.{ℕ, suc, List, [], ◌∷◌, ◌++◌, length, Bool, true, false, ◌||◌, Option, Some, None}
 use Rattle.pyd_value.specs.declared.value.Value.{Bool as Truth}
 use Rattle.pyd_value.specs.declared.value.Value.TheVariants as value
 use Rattle.pyd_value.specs.declared.fault.Kind.TheVariants.{ValueError}
@@ -25,7 +25,7 @@ use Rattle.pyd_ir.specs.declared.work.Frame.TheVariants.{After}
 use Rattle.pyd_ir.specs.declared.work.Work.{Work}
 use Rattle.pyd_ir.specs.declared.work.Work.TheVariants.{Op, Cond, While, For}
 use Rattle.pyd_translate.specs.Making.{Making, Piece, Context, pure, stop_by, emit, port, ◌>>>◌}
-use Rattle.pyd_translate.specs.Numbers.{Point, past_statement, past_expression}
+use Rattle.pyd_scope.specs.Numbering.{Point, past_statement, past_expression}
 use Rattle.pyd_translate.specs.Slots.{set_slot, slot_ports}
 use Rattle.pyd_translate.specs.Expressions.{expression_unfolds, name_operand, operator, choose}
 

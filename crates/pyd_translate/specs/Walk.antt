@@ -2,23 +2,18 @@
 use Rattle.std.specs.Prelude.{ℕ, zero, suc, ◌+◌, ◌-◌, ◌*◌, List, [], ◌∷◌, length, map, drop, nat_eq, if◌then◌else◌, Option, Some, None, option_map}
 use Rattle.std.specs.List.{slice_get}
 use Rattle.pyd_value.specs.declared.value.Value.{Value}
-use Rattle.pyd_value.specs.declared.value.Value.TheVariants as value
 use Rattle.pyd_value.specs.declared.fault.Kind.TheVariants.{NameError}
 use Rattle.pyd_value.specs.Truth.{is_true}
 use Rattle.pyd_tree.specs.declared.expression.Expr.{Expr, out-Expr}
 use Rattle.pyd_tree.specs.declared.expression.Expr.TheOpen.{Expr-F}
 use Rattle.pyd_tree.specs.declared.expression.Suffix.{Suffix}
-use Rattle.pyd_tree.specs.declared.statement.What.{What, out-What}
-use Rattle.pyd_tree.specs.declared.statement.What.TheOpen.{What-F}
-use Rattle.pyd_tree.specs.declared.statement.Arm.{Arm}
-use Rattle.pyd_tree.specs.declared.statement.Block.{Block}
 use Rattle.pyd_tree.specs.declared.statement.Stmt.{Stmt}
 use Rattle.pyd_tree.specs.declared.file.File.{File}
 use Rattle.pyd_names.specs.Binding.{locals}
 use Rattle.pyd_meaning.specs.declared.limits.Limits.{Limits}
 use Rattle.pyd_meaning.specs.Evaluation.{Evaluation, gives, ◌>>=◌}
 use Rattle.pyd_meaning.specs.Names.{Names}
-use Rattle.pyd_meaning.specs.Setting.{Place, place_of, Setting, raises, value_or}
+use Rattle.pyd_meaning.specs.Setting.{place_of, Setting, raises, value_or}
 use Rattle.pyd_meaning.specs.Expression.{Meaning, meaning_of, branch, conjunction, disjunction, compared}
 use Rattle.pyd_meaning.specs.Completion.{Completion, Normal, Break, Continue, Return, Reached, Action, normally, in_turn, value_after}
 use Rattle.pyd_meaning.specs.Loops.{while_from, while_loop, for_loop}
@@ -34,8 +29,9 @@ use Rattle.pyd_ir.specs.declared.work.Work.{Work}
 use Rattle.pyd_ir.specs.declared.work.Work.TheVariants.{Op, Read, Call, Stop, Print, Run, Cond, While, For, Pick, Enter}
 use Rattle.pyd_ir.specs.Inputs.{Given, value_of, values_of, leaf_meaning}
 use Rattle.pyd_ir.specs.Ports.{Ports, only_port, ports_of}
-use Rattle.pyd_translate.specs.Numbers.{expression_table}
-use Rattle.pyd_translate.specs.Compounds.{Compound, Choice, WhileLoop, ForLoop, Simple, passage_at, passage_behind, compound_at, line_at}
+use Rattle.pyd_scope.specs.Numbering.{expression_table}
+use Rattle.pyd_scope.specs.Passages.{passage_at}
+use Rattle.pyd_translate.specs.Compounds.{Compound, Choice, WhileLoop, ForLoop, Simple, passage_behind, compound_at, line_at}
 use Rattle.pyd_translate.specs.Slots.{arg_of}
 
 -- the names that slots have, by what the nodes before gave
@@ -224,11 +220,13 @@ module _ (file : File) (limits : Limits) where
       (slot_names node.routine node.depth env given)) given rest)
   work_ports (While test k turns rest env) node given =
       if_there (value_of given test) node.line (λ v. ported_meaning node.routine node.depth
-      (from_turn (here node.routine node.depth) (compound_at file node.routine k) node.line turns v
+      (from_turn (here node.routine node.depth) (compound_at file node.routine k)
+      (line_at file node.routine k) turns v
       (slot_names node.routine node.depth env given)) given rest)
   work_ports (For over k turns rest env) node given =
       if_there (value_of given over) node.line (λ v. ported_meaning node.routine node.depth
-      (from_turn (here node.routine node.depth) (compound_at file node.routine k) node.line turns v
+      (from_turn (here node.routine node.depth) (compound_at file node.routine k)
+      (line_at file node.routine k) turns v
       (slot_names node.routine node.depth env given)) given rest)
   work_ports (Pick test first second env) node given =
       if_there (value_of given test) node.line (λ v.
