@@ -1,0 +1,6 @@
+pub mod Composites
+pub mod Redirecting
+pub mod Ordering
+pub mod Readiness
+pub mod Laws
+pub mod Rules

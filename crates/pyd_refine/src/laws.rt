@@ -1,0 +1,38 @@
+//! The laws of refining: contracts of functions with empty bodies.
+ghost use Rattle.pyd_refine.specs.Laws.{FoundLaw, PieceLaw, PieceOrder, RefineLaw, SubstitutionLaw};
+ghost use Rattle.pyd_refine.specs.Rules.{RuleLaws};
+
+/// What the piece of each composite is, in each way in which it goes on.
+pub fn rule_laws()
+    ensures { RuleLaws }
+{}
+
+/// In a list in order, the node of a number is found where it stands.
+pub fn found_law()
+    ensures { FoundLaw }
+{}
+
+/// In a list in order, a new piece that does what a node does may take its place: the list prints the
+/// same lines and ends alike, is in order again, and counts no more steps, and fewer wherever the walk
+/// leads to the node.
+pub fn substitution_law()
+    ensures { SubstitutionLaw }
+{}
+
+/// The piece of a composite that is ready does what the composite does, gives the same at its ports, and
+/// counts fewer steps.
+pub fn piece_law()
+    ensures { PieceLaw }
+{}
+
+/// The piece of a composite is new, whatever the value of its control is: numbered from the next number
+/// on, naming only what the composite named or nodes before it in the piece.
+pub fn piece_order_law()
+    ensures { PieceOrder }
+{}
+
+/// In a list in order, the piece of a composite that is ready wherever the walk leads to it may take the
+/// composite's place.
+pub fn refine_law()
+    ensures { RefineLaw }
+{}

@@ -1,0 +1,6 @@
+//! The nodes that take the place of a composite, and what refining keeps.
+#![tactic(auto)]
+
+mod laws;
+
+pub use laws::{found_law, piece_law, piece_order_law, refine_law, rule_laws, substitution_law};
