@@ -1,0 +1,13 @@
+//! Settling the head of the chain: the lines that go out, and how it ends.
+#![tactic(auto)]
+
+mod laws;
+mod settled;
+mod settling;
+
+pub use laws::{leaf_law, walk_law};
+pub use settled::Settled;
+pub use settling::settle_head;
+
+#[cfg(test)]
+mod tests;
