@@ -1,0 +1,3 @@
+pub mod Lineage
+pub mod Marking
+pub mod Ordered

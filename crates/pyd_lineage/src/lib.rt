@@ -1,0 +1,12 @@
+//! Which nodes have to be run again, and which past ones may be dropped.
+#![tactic(auto)]
+
+mod lineage;
+mod marking;
+mod naming;
+mod numbers;
+
+pub use lineage::{needed, trim};
+
+#[cfg(test)]
+mod tests;
