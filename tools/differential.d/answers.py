@@ -8,7 +8,7 @@ import evaluator
 from operations import LIMITS
 
 SECONDS = 120
-FINISHED, NOT_YET = ("Finished", 0), ("REFUSED NotYet", 0)
+FINISHED = ("Finished", 0)
 # exceptions of CPython where the profile has a value, or a limit of its own
 WIDE = ("OverflowError", "MemoryError", "RecursionError", "Stopped")
 LINE = re.compile(r"(?:(LIMIT|REFUSED) )?(\w+)(?:: (?:line|byte) (\d+))?\n")
@@ -51,7 +51,7 @@ def by_program(source, program):
     if not line or status[line.group(1)] != ran.returncode:
         return Answer(ran.stdout, (f"status {ran.returncode}: {error}", 0))
     name = f"REFUSED {line.group(2)}" if line.group(1) == "REFUSED" else line.group(2)
-    return Answer(ran.stdout, (name, 0 if name == NOT_YET[0] else int(line.group(3) or 0)))
+    return Answer(ran.stdout, (name, int(line.group(3) or 0)))
 
 
 def by_evaluator(source):
@@ -101,9 +101,7 @@ def compare(source, refusal, program, with_cpython=True):
     if program:
         given = by_program(source, program)
         answers.append(("program", given))
-        if given.end == NOT_YET:
-            notes += ("aren't run by the program so far",)
-        elif difference(ours, given):
+        if difference(ours, given):
             differs = f"evaluator and program: {difference(ours, given)}"
     return Comparison(differs, ours.end[0], ours.printed.count(b"\n"), notes, tuple(answers))
 
