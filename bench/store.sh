@@ -84,7 +84,18 @@ fn measure(rt: &HostRuntime, order: &str, by: u64, size: u64) -> io::Result<()>
     println!(rt; "{order} {size} {put} {fetch} {remove}")
 }
 
+// A store of the largest size, filled and emptied, so that no timed call waits for the system's memory.
+fn warm_up(rt: &HostRuntime) -> io::Result<()> {
+    let mut store = Store::new(rt.alloc());
+    if put_all(&mut store, CALLS, 1).is_err() {
+        return Err(io::ErrorKind::OutOfMemory.into());
+    }
+    remove_all(&mut store, CALLS, 1);
+    Ok(())
+}
+
 fn main(rt: HostRuntime) -> io::Result<()> {
+    warm_up(&rt)?;
     for (order, by) in ORDERS {
         for size in [1_000, 10_000, 100_000] {
             measure(&rt, order, by, size)?;
