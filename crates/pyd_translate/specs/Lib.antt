@@ -10,6 +10,7 @@ pub mod Walk
 pub mod Matching
 pub mod Naming
 pub mod Laws
+pub mod Supplied
 pub mod Readings
 pub mod Rows
 pub mod Counts
