@@ -1,0 +1,143 @@
+-- What is promised of every run.
+use Rattle.std.specs.Prelude.{◌≡◌, ◌≢◌, ◌<◌, ◌≤◌, ◌==◌, ℕ, suc, List, [], ◌∷◌, ◌++◌, length, map, take, max, Bool, false, Some, None, ◌⊎◌}
+use Rattle.std.specs.List.{All, Contains, count_by, zip}
+use Rattle.pyd_value.specs.declared.fault.End.{End}
+use Rattle.pyd_board.specs.declared.event.Act.{Act}
+use Rattle.pyd_board.specs.declared.event.Act.TheVariants.{Place, Claim, Finish, Drop, Refine, Settle, Lose, Trim}
+use Rattle.pyd_board.specs.declared.event.Event.{Event}
+use Rattle.pyd_board.specs.declared.setup.Loss.{Loss}
+use Rattle.pyd_runs.specs.Plans.{Plan, meaning}
+use Rattle.pyd_runs.specs.Desks.{Held}
+use Rattle.pyd_runs.specs.Effects.{State, happens}
+use Rattle.pyd_runs.specs.Enabled.{Enabled, IsLoss, due}
+use Rattle.pyd_runs.specs.Replay.{IsLegal, replay}
+use Rattle.pyd_runs.specs.Sound.{IsSound, IsWhole}
+
+-- entries in order of their events
+abbrev pub AreInOrder : List Loss → Type 0
+AreInOrder [] = Unit {0}
+AreInOrder (l ∷ losses) = All (λ more. l.event ≤ more.event) losses × AreInOrder losses
+
+-- no machine is named twice
+abbrev pub AreDifferent : List Loss → Type 0
+AreDifferent [] = Unit {0}
+AreDifferent (l ∷ losses) = All (λ more. l.machine ≢ more.machine) losses × AreDifferent losses
+
+-- a plan that may be run: its window holds a node, and its losses, in order, name different machines but not all
+pub record IsRunnable (p : Plan) : Type 0 where
+  pub window : 0 < p.setup.window
+  pub workers : 0 < p.setup.workers
+  pub in_order : AreInOrder p.setup.losses
+  pub different : AreDifferent p.setup.losses
+  pub machines : All (λ l. l.machine < p.setup.machines) p.setup.losses
+  pub some_spared : length p.setup.losses < p.setup.machines
+
+-- while a run goes on, a loss that is due bars any other event
+abbrev pub BarLaw : Type 0
+BarLaw = (p : Plan) (s : State) (e : Event) (machine : ℕ) → s.graph.end ≡ None
+    → due s ≡ Some machine → Enabled p s e → e.act ≡ Lose machine
+
+-- each event that may come keeps what holds
+abbrev pub EventLaw : Type 0
+EventLaw = (p : Plan) (s : State) (e : Event)
+    → IsSound p s → Enabled p s e → IsSound p (happens p s e)
+
+-- the state after every legal run is sound
+abbrev pub RunLaw : Type 0
+RunLaw = (p : Plan) (es : List Event)
+    → IsRunnable p → IsLegal p es → IsSound p (replay p es)
+
+-- what was put out is a beginning of the script's lines
+abbrev pub PrefixLaw : Type 0
+PrefixLaw = (p : Plan) (es : List Event) → IsRunnable p → IsLegal p es
+    → (more : List (List ℕ)) × ((replay p es).graph.out ++ more ≡ (meaning p).lines)
+
+-- at its end it is all of them, and the run ends as the script does
+abbrev pub EndLaw : Type 0
+EndLaw = (p : Plan) (es : List Event) (end : End) → IsRunnable p → IsLegal p es
+    → (replay p es).graph.end ≡ Some end → IsWhole p (replay p es).graph.out end
+
+-- an event on the way to the end: neither a Trim nor a Drop
+abbrev pub IsForward : Act → Type 0
+IsForward (Place k attempt machine) = Unit {0}
+IsForward (Claim k attempt machine) = Unit {0}
+IsForward (Finish k attempt machine) = Unit {0}
+IsForward (Drop k attempt machine) = ⊥
+IsForward (Refine k) = Unit {0}
+IsForward (Settle k) = Unit {0}
+IsForward (Lose machine) = Unit {0}
+IsForward (Trim k) = ⊥
+
+-- a run that hasn't ended can go on
+abbrev pub ProgressLaw : Type 0
+ProgressLaw = (p : Plan) (es : List Event) → IsRunnable p → IsLegal p es
+    → (replay p es).graph.end ≡ None
+    → (e : Event) × Enabled p (replay p es) e × IsForward e.act
+
+-- an event settles a node
+abbrev pub settles : ℕ → Act → Bool
+settles k (Settle n) = n == k
+settles k (Place n attempt machine) = false
+settles k (Claim n attempt machine) = false
+settles k (Finish n attempt machine) = false
+settles k (Drop n attempt machine) = false
+settles k (Refine n) = false
+settles k (Lose machine) = false
+settles k (Trim n) = false
+
+-- no node is settled twice
+abbrev pub OnceLaw : Type 0
+OnceLaw = (p : Plan) (es : List Event) (k : ℕ) → IsRunnable p → IsLegal p es
+    → count_by (λ e. settles k e.act) es ≤ 1
+
+-- a claim of a node stands, or a loss undid it and it wasn't dropped since
+abbrev pub IsHeld : State → ℕ → Held → Type 0
+IsHeld s k c = (s.desk.claim k ≡ Some c) ⊎ (s.desk.undone k c.attempt ≡ Some c)
+
+-- a claim is held until its own seat finishes or drops it
+abbrev pub HoldLaw : Type 0
+HoldLaw = (p : Plan) (s : State) (e : Event) (k : ℕ) (c : Held) → IsSound p s → Enabled p s e
+    → (e.by ≢ c.seat) ⊎ IsLoss e.act → IsHeld s k c → IsHeld (happens p s e) k c
+
+-- between two claims of a node stands a loss of the first one's machine
+abbrev pub AgainLaw : Type 0
+AgainLaw = (p : Plan) (before between behind : List Event) (first second : Event)
+    (k a b m n : ℕ) → IsRunnable p
+    → IsLegal p (before ++ (first ∷ (between ++ (second ∷ behind))))
+    → first.act ≡ Claim k a m → second.act ≡ Claim k b n
+    → (e : Event) × Contains between e × (e.act ≡ Lose m)
+
+-- the places in a run at which losses come: the number of an entry, or the next place behind the loss before
+abbrev pub places_from : ℕ → List Loss → List ℕ
+places_from next [] = []
+places_from next (l ∷ losses) = max next l.event ∷ places_from (suc (max next l.event)) losses
+
+-- an event at a place before the losses behind it: a loss comes first, and any other is none
+abbrev pub loss_at : ℕ → Act → List (ℕ × ℕ) → List (ℕ × ℕ)
+loss_at k (Lose machine) more = (k, machine) ∷ more
+loss_at k (Place n attempt machine) more = more
+loss_at k (Claim n attempt machine) more = more
+loss_at k (Finish n attempt machine) more = more
+loss_at k (Drop n attempt machine) more = more
+loss_at k (Refine n) more = more
+loss_at k (Settle n) more = more
+loss_at k (Trim n) more = more
+
+-- the losses of a run with their places, counted from a number on
+abbrev pub losses_in : ℕ → List Event → List (ℕ × ℕ)
+losses_in k [] = []
+losses_in k (e ∷ es) = loss_at k e.act (losses_in (suc k) es)
+
+-- the losses of a script with their places
+abbrev pub losses_due : List Loss → List (ℕ × ℕ)
+losses_due losses = zip (places_from 0 losses) (map (λ l. l.machine) losses)
+
+-- losses stand exactly at their places: those of a run are the first of the script, and the place of any other isn't reached, or the run had ended by then
+pub record AreAtPlaces (p : Plan) (es : List Event) : Type 0 where
+  pub more : List (ℕ × ℕ)
+  pub first : losses_due p.setup.losses ≡ losses_in 0 es ++ more
+  pub later : All (λ l. (length es ≤ l.0) ⊎ ((replay p (take l.0 es)).graph.end ≢ None)) more
+
+-- losses stand exactly at their places
+abbrev pub LossLaw : Type 0
+LossLaw = (p : Plan) (es : List Event) → IsRunnable p → IsLegal p es → AreAtPlaces p es

@@ -1,0 +1,12 @@
+pub mod Plans
+pub mod Graphs
+pub mod Desks
+pub mod Records
+pub mod Reach
+pub mod Losses
+pub mod Growth
+pub mod Effects
+pub mod Enabled
+pub mod Replay
+pub mod Sound
+pub mod Laws

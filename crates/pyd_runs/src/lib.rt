@@ -1,0 +1,6 @@
+//! Runs of a script over machines that are lost: which events may come, what they do, and what is promised of every run.
+#![tactic(auto)]
+
+mod laws;
+
+pub use laws::bar_law;
