@@ -68,11 +68,11 @@ SlotsAre slots next given env names = AreSlots slots next given env names
 -- unpacking
 
 -- a tuple has its members as items
-items_tuple : (vs : List Value) → items (Tuple vs) ≡ Some vs
+pub items_tuple : (vs : List Value) → items (Tuple vs) ≡ Some vs
 items_tuple vs = ap items_in (shape_of-tuple vs)
 
 -- the tuple of so many members
-abbrev IsTupleOf : ℕ → Value → Type 0
+abbrev pub IsTupleOf : ℕ → Value → Type 0
 IsTupleOf n t = (vs : List Value) × ((t ≡ Tuple vs) × (length vs ≡ n))
 
 same_number : (m n : ℕ) → nat_eq m n ≡ true → m ≡ n
@@ -87,7 +87,7 @@ yields_if vs n line true e =
     yields-gives (Tuple vs) (IsTupleOf n) (vs, (refl, same_number (length vs) n e))
 yields_if vs n line false e = yields-faults (Raised ValueError line) (IsTupleOf n)
 
-yields_unpack : (n : ℕ) (o : Option (List Value)) (line : ℕ)
+pub yields_unpack : (n : ℕ) (o : Option (List Value)) (line : ℕ)
     → Yields (settled (unpack n o line)) (IsTupleOf n)
 yields_unpack n (Some vs) line = yields_if vs n line (nat_eq (length vs) n) refl
 yields_unpack n None line = yields-faults (Raised TypeError line) (IsTupleOf n)

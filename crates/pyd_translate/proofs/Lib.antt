@@ -65,3 +65,10 @@ pub mod SilentActions
 pub mod SilentStatements
 pub mod Unbroken
 pub mod FunctionalCalls
+pub mod Supplying
+pub mod SuppliedExpressions
+pub mod SuppliedSides
+pub mod LawsSupplied
+pub mod SuppliedBindings
+pub mod SuppliedStatements
+pub mod SuppliedRests

@@ -122,15 +122,15 @@ module _ (naming : Naming) where
         (rest_order rest ids below) ids env (omega arith) low ids from (omega arith)
 
 -- a number below another, by test
-is_less : (k n : ℕ) → k < n → nat_lt k n ≡ true
+pub is_less : (k n : ℕ) → k < n → nat_lt k n ≡ true
 is_less k n lt = grind (arith, nat_tests)
 
 -- the other way round
-less_is : (k n : ℕ) → nat_lt k n ≡ true → k < n
+pub less_is : (k n : ℕ) → nat_lt k n ≡ true → k < n
 less_is k n e = grind (arith, nat_tests)
 
 -- the nodes before each
-abbrev before_each : Naming
+abbrev pub before_each : Naming
 before_each = record {
   base = 0;
   may = λ n k. nat_lt k n;
@@ -153,7 +153,7 @@ is_below n (Slot r) b = less_is r.node n b
 is_below n Unbound b = tt
 
 -- the same of several
-are_before : (n : ℕ) (args : List Arg) → AreBelow n args → AreIn before_each n args
+pub are_before : (n : ℕ) (args : List Arg) → AreBelow n args → AreIn before_each n args
 are_before n [] b = tt
 are_before n (a ∷ args) b = (is_before n a b.0, are_before n args b.1)
 
@@ -163,7 +163,7 @@ are_below n [] b = tt
 are_below n (a ∷ args) b = (is_below n a b.0, are_below n args b.1)
 
 -- nodes that name nodes before them are numbered in order
-named_numbered : (ids : ℕ) (ns : List Node) → AreNamed before_each ids ns → AreNumbered ids ns
+pub named_numbered : (ids : ℕ) (ns : List Node) → AreNamed before_each ids ns → AreNumbered ids ns
 named_numbered ids [] p = tt
 named_numbered ids (n ∷ ns) p = (p.0, are_below ids (arguments n.work) p.1, named_numbered (suc ids) ns p.2)
 

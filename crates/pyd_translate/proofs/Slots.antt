@@ -61,7 +61,7 @@ count_if true xs ys n p q = p
 count_if false xs ys n p q = q
 
 -- there are as many arguments as before
-set_count : (slots : List (List ℕ)) (env : List Arg) (name : List ℕ) (b : Arg)
+pub set_count : (slots : List (List ℕ)) (env : List Arg) (name : List ℕ) (b : Arg)
     → length env ≡ length slots → length (set_slot slots env name b) ≡ length slots
 set_count [] env name b e = e
 set_count (slot ∷ slots) [] name b e = e
@@ -76,7 +76,7 @@ given_list_if true ids given xs ys p q = p
 given_list_if false ids given xs ys p q = q
 
 -- they are given where the new one is
-set_given : (slots : List (List ℕ)) (ids : ℕ) (given : Given) (env : List Arg) (name : List ℕ) (b : Arg)
+pub set_given : (slots : List (List ℕ)) (ids : ℕ) (given : Given) (env : List Arg) (name : List ℕ) (b : Arg)
     → AreGiven ids given env → IsGiven ids given b → AreGiven ids given (set_slot slots env name b)
 set_given [] ids given env name b p q = p
 set_given (slot ∷ slots) ids given [] name b p q = tt
@@ -174,11 +174,11 @@ slots_unbound slots ids given = record {
 
 -- the ports of a composite
 
-ports_count : (slots : List (List ℕ)) (id p : ℕ) → length (slot_ports id p slots) ≡ length slots
+pub ports_count : (slots : List (List ℕ)) (id p : ℕ) → length (slot_ports id p slots) ≡ length slots
 ports_count [] id p = refl
 ports_count (slot ∷ slots) id p = ap suc (ports_count slots id (suc p))
 
-ports_given : (slots : List (List ℕ)) (id p : ℕ) (given : Given)
+pub ports_given : (slots : List (List ℕ)) (id p : ℕ) (given : Given)
     → AreGiven (suc id) given (slot_ports id p slots)
 ports_given [] id p given = tt
 ports_given (slot ∷ slots) id p given = (omega arith, ports_given slots id (suc p) given)

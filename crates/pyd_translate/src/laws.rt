@@ -4,6 +4,7 @@ ghost use Rattle.pyd_translate.specs.Laws.{BlockLaw, BlockOrder, ExpressionLaw, 
 ghost use Rattle.pyd_translate.specs.Nested.{BlockNested, RoutineCount, SideNested, StartWithin};
 ghost use Rattle.pyd_translate.specs.Purity.{FunctionalCallLaw, FunctionalLeafLaw};
 ghost use Rattle.pyd_translate.specs.Readings.{ConditionalOrder, StopLaw};
+ghost use Rattle.pyd_translate.specs.Supplied.{BlockSupply, ExpressionSupply, SideSupply};
 
 /// Of a conditional expression the first side is numbered before the test.
 pub fn conditional_order_law()
@@ -109,4 +110,21 @@ pub fn functional_call_law()
 /// Nor does a leaf that calls one.
 pub fn functional_leaf_law()
     ensures { FunctionalLeafLaw }
+{}
+
+/// Where a walk comes to a node of an expression, the node has what it needs: the arguments of a leaf and of
+/// a call that is entered have values, and so have the control and the sides of a choice.
+pub fn expression_supply_law()
+    ensures { ExpressionSupply }
+{}
+
+/// So has each node of a side of a choice, where the side's own argument has a value.
+pub fn side_supply_law()
+    ensures { SideSupply }
+{}
+
+/// So has each node of statements, and of what goes on behind them, where the iterables of the rest have values.
+/// A composite also has an argument for each slot of its routine.
+pub fn block_supply_law()
+    ensures { BlockSupply }
 {}
