@@ -1,1 +1,12 @@
 pub mod Barring
+pub mod Putting
+pub mod Dropping
+pub mod Ticketing
+pub mod Holding
+pub mod Readiness
+pub mod Finishing
+pub mod Seeing
+pub mod Places
+pub mod Losing
+pub mod Without
+pub mod Trimming

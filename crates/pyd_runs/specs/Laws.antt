@@ -1,17 +1,20 @@
 -- What is promised of every run.
 use Rattle.std.specs.Prelude.{◌≡◌, ◌≢◌, ◌<◌, ◌≤◌, ◌==◌, ℕ, suc, List, [], ◌∷◌, ◌++◌, length, map, take, max, Bool, false, Some, None, ◌⊎◌}
 use Rattle.std.specs.List.{All, Contains, count_by, zip}
+use Rattle.pyd_value.specs.declared.value.Value.{Value}
 use Rattle.pyd_value.specs.declared.fault.End.{End}
 use Rattle.pyd_board.specs.declared.event.Act.{Act}
 use Rattle.pyd_board.specs.declared.event.Act.TheVariants.{Place, Claim, Finish, Drop, Refine, Settle, Lose, Trim}
 use Rattle.pyd_board.specs.declared.event.Event.{Event}
 use Rattle.pyd_board.specs.declared.setup.Loss.{Loss}
+use Rattle.pyd_ir.specs.declared.node.Node.{Node}
 use Rattle.pyd_runs.specs.Plans.{Plan, meaning}
+use Rattle.pyd_runs.specs.Graphs.{Graph}
 use Rattle.pyd_runs.specs.Desks.{Held}
-use Rattle.pyd_runs.specs.Effects.{State, happens}
-use Rattle.pyd_runs.specs.Enabled.{Enabled, IsLoss, due}
+use Rattle.pyd_runs.specs.Effects.{State, acted, happens}
+use Rattle.pyd_runs.specs.Enabled.{CanPlace, CanFinish, CanLose, CanTrim, Enabled, IsLoss, due}
 use Rattle.pyd_runs.specs.Replay.{IsLegal, replay}
-use Rattle.pyd_runs.specs.Sound.{IsSound, IsWhole}
+use Rattle.pyd_runs.specs.Sound.{IsSound, IsGraphSound, IsWhole, ports_seen, leaf_seen, sight}
 
 -- entries in order of their events
 abbrev pub AreInOrder : List Loss → Type 0
@@ -41,6 +44,42 @@ BarLaw = (p : Plan) (s : State) (e : Event) (machine : ℕ) → s.graph.end ≡ 
 abbrev pub EventLaw : Type 0
 EventLaw = (p : Plan) (s : State) (e : Event)
     → IsSound p s → Enabled p s e → IsSound p (happens p s e)
+
+-- a ticket that may be placed keeps what holds
+abbrev pub PlaceLaw : Type 0
+PlaceLaw = (p : Plan) (s : State) (seat k attempt machine : ℕ) → IsSound p s
+    → CanPlace p s k attempt machine → IsSound p (acted p s seat (Place k attempt machine))
+
+-- a claim that may be finished keeps what holds
+abbrev pub FinishLaw : Type 0
+FinishLaw = (p : Plan) (s : State) (seat k attempt machine : ℕ) → IsSound p s
+    → CanFinish p s seat k attempt machine
+    → IsSound p (acted p s seat (Finish k attempt machine))
+
+-- a claim that is dropped keeps what holds
+abbrev pub DropLaw : Type 0
+DropLaw = (p : Plan) (s : State) (seat k attempt machine : ℕ) → IsSound p s
+    → IsSound p (acted p s seat (Drop k attempt machine))
+
+-- what is seen of a settled node is what it gave, and of a node of the chain what it does by what is seen
+pub record IsSight (p : Plan) (g : Graph) : Type 0 where
+  pub given : (k port : ℕ) (v : Value) → g.given k port ≡ Some v → sight p g k port ≡ Some v
+  pub chain : (n : Node) → Contains g.chain n → (port : ℕ)
+      → sight p g n.id port ≡ ports_seen n (leaf_seen p (sight p g) n) port
+
+-- what is seen of a sound graph
+abbrev pub SightLaw : Type 0
+SightLaw = (p : Plan) (g : Graph) → IsGraphSound p g → IsSight p g
+
+-- a loss that is due keeps what holds
+abbrev pub LoseLaw : Type 0
+LoseLaw = (p : Plan) (s : State) (seat machine : ℕ) → IsSound p s → CanLose s seat machine
+    → IsSound p (acted p s seat (Lose machine))
+
+-- a past node that may be trimmed keeps what holds
+abbrev pub TrimLaw : Type 0
+TrimLaw = (p : Plan) (s : State) (seat k : ℕ) → IsSound p s → CanTrim s k
+    → IsSound p (acted p s seat (Trim k))
 
 -- the state after every legal run is sound
 abbrev pub RunLaw : Type 0

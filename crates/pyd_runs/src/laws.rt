@@ -1,7 +1,47 @@
 //! The laws of runs: contracts of functions with empty bodies.
-ghost use Rattle.pyd_runs.specs.Laws.{BarLaw};
+ghost use Rattle.pyd_runs.specs.Laws.{BarLaw, DropLaw, FinishLaw, HoldLaw, LoseLaw, LossLaw, PlaceLaw, SightLaw, TrimLaw};
 
 /// While a run goes on, a loss that is due bars any other event.
 pub fn bar_law()
     ensures { BarLaw }
+{}
+
+/// A claim that is dropped keeps what holds.
+pub fn drop_law()
+    ensures { DropLaw }
+{}
+
+/// A ticket that may be placed keeps what holds.
+pub fn place_law()
+    ensures { PlaceLaw }
+{}
+
+/// A claim is held until its own seat finishes or drops it.
+pub fn hold_law()
+    ensures { HoldLaw }
+{}
+
+/// A claim that may be finished keeps what holds.
+pub fn finish_law()
+    ensures { FinishLaw }
+{}
+
+/// What is seen of settled nodes is what they gave, and of the chain's what they do by what is seen.
+pub fn sight_law()
+    ensures { SightLaw }
+{}
+
+/// A loss that is due keeps what holds.
+pub fn lose_law()
+    ensures { LoseLaw }
+{}
+
+/// Losses stand exactly at their places.
+pub fn loss_law()
+    ensures { LossLaw }
+{}
+
+/// A past node that may be trimmed keeps what holds.
+pub fn trim_law()
+    ensures { TrimLaw }
 {}
