@@ -40,11 +40,6 @@ abbrev pub BarLaw : Type 0
 BarLaw = (p : Plan) (s : State) (e : Event) (machine : ℕ) → s.graph.end ≡ None
     → due s ≡ Some machine → Enabled p s e → e.act ≡ Lose machine
 
--- each event that may come keeps what holds
-abbrev pub EventLaw : Type 0
-EventLaw = (p : Plan) (s : State) (e : Event)
-    → IsSound p s → Enabled p s e → IsSound p (happens p s e)
-
 -- a ticket that may be placed keeps what holds
 abbrev pub PlaceLaw : Type 0
 PlaceLaw = (p : Plan) (s : State) (seat k attempt machine : ℕ) → IsSound p s
