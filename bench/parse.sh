@@ -1,5 +1,6 @@
 #!/usr/bin/env bash
-# Times tokens and parse on 1 MiB of each shape of source, and prints the seconds of each and the peak of memory.
+# Times tokens and parse on 1 MiB of each shape of source, and prints the seconds of each, the processor seconds of the
+# whole process and the peak of memory. Fails where a shape takes more than 1 s, or 400 bytes of memory a byte.
 # The program is made in a temporary folder, over copies of the crates; three rounds, medians.
 set -eu
 here=$(cd "$(dirname "$0")/.." && pwd)
@@ -71,11 +72,12 @@ shapes = {
     "texts": ("'" + "a" * 61 + "'\n") * (MIB // 64),
     "names": ("a" * 63 + "\n") * (MIB // 64),
 }
+above = []
 for name, source in shapes.items():
     path = f"{work}/source"
     with open(path, "w") as out:
         out.write(source)
-    rounds, peak = [], 0
+    rounds, busy, peak = [], [], 0
     for _ in range(3):
         with open(path) as stdin:
             child = subprocess.Popen([program], stdin=stdin, stdout=subprocess.PIPE, text=True)
@@ -84,8 +86,13 @@ for name, source in shapes.items():
         assert status == 0, name
         lexed, parsed, answer = line.split()
         rounds.append((int(lexed), int(parsed)))
+        busy.append(usage.ru_utime + usage.ru_stime)
         peak = max(peak, usage.ru_maxrss)
     lexed, parsed = (statistics.median(column) / 1e9 for column in zip(*rounds))
     each = peak * 1024 / len(source)
-    print(f"{name}: tokens {lexed:.3f} s, parse {parsed:.3f} s, {peak} KiB, {each:.0f} bytes a byte: {answer}")
+    print(f"{name}: tokens {lexed:.3f} s, parse {parsed:.3f} s, process {statistics.median(busy):.3f} s,",
+          f"{peak} KiB, {each:.0f} bytes a byte: {answer}")
+    if lexed + parsed > 1 or each > 400:
+        above.append(name)
+sys.exit("above 1 s or 400 bytes a byte: " + ", ".join(above) if above else 0)
 PY
