@@ -1,7 +1,8 @@
 #!/usr/bin/env bash
 # Times 100,000 puts, fetches and removes of a store with 1,000, 10,000 and 100,000 entries, with nodes in the order of
 # their numbers, as a run makes them, and in no order. Five rounds; prints the medians in nanoseconds a call, and how
-# they grow beside the logarithm of the entries.
+# they grow beside the logarithm of the entries. A large store's entries lie outside the processor's caches, so its
+# times grow more than its work; where valgrind is on the path, the instructions of a call are counted too.
 set -eu
 here=$(cd "$(dirname "$0")/.." && pwd)
 work=$(mktemp -d)
@@ -84,22 +85,30 @@ fn measure(rt: &HostRuntime, order: &str, by: u64, size: u64) -> io::Result<()>
     println!(rt; "{order} {size} {put} {fetch} {remove}")
 }
 
-// A store of the largest size, filled and emptied, so that no timed call waits for the system's memory.
-fn warm_up(rt: &HostRuntime) -> io::Result<()> {
+// A store of the largest size is filled and emptied, so that no timed call waits for the system's memory. What is
+// answered lies behind it: as long as it is kept, the memory isn't given back.
+fn warm_up(rt: &HostRuntime) -> io::Result<Store> {
     let mut store = Store::new(rt.alloc());
     if put_all(&mut store, CALLS, 1).is_err() {
         return Err(io::ErrorKind::OutOfMemory.into());
     }
+    let mut last = Store::new(rt.alloc());
+    if put(&mut last, CALLS).is_err() {
+        return Err(io::ErrorKind::OutOfMemory.into());
+    }
     remove_all(&mut store, CALLS, 1);
-    Ok(())
+    Ok(last)
 }
 
 fn main(rt: HostRuntime) -> io::Result<()> {
-    warm_up(&rt)?;
+    let last = warm_up(&rt)?;
     for (order, by) in ORDERS {
         for size in [1_000, 10_000, 100_000] {
             measure(&rt, order, by, size)?;
         }
+    }
+    if last.fetch(CALLS).is_none() {
+        return Err(io::ErrorKind::InvalidData.into());
     }
     Ok(())
 }
@@ -125,5 +134,41 @@ for order, size, times in rows:
     least_size, least = first.setdefault(order, (size, times))
     logarithm = math.log(size) / math.log(least_size)
     grown = ", ".join(f"{call} {time:.0f} ns ({time / before:.2f})" for call, time, before in zip(CALLS, times, least))
+    print(f"{order}, {size} entries: {grown}; the logarithm {logarithm:.2f}")
+PY
+
+command -v valgrind >/dev/null || exit 0
+# One dump of counts before each line that is written: the first has the calls of the warm-up too, which are those of
+# the third. A fetch is what is left: it has no function of its own.
+(cd "$work" && valgrind --tool=callgrind --dump-before=write --callgrind-out-file=counts \
+    crates/store_times/out/store_times >lines 2>valgrind_says)
+python3 - "$work" <<'PY'
+import math
+import re
+import subprocess
+import sys
+
+CALLS, MOST = ("put", "fetch", "remove"), 100_000
+work = sys.argv[1]
+lines = [line.split()[:2] for line in open(f"{work}/lines")]
+
+
+def counts(part):
+    """The instructions of all puts, fetches and removes of a dump."""
+    words = ["callgrind_annotate", "--inclusive=yes", "--threshold=100", "--show-percs=no", f"{work}/counts.{part}"]
+    text = subprocess.run(words, check=True, capture_output=True, text=True).stdout
+    of = lambda name: int(re.search(rf"([\d,]+) +\S*store_times::{name}\b", text).group(1).replace(",", ""))
+    whole = int(re.search(r"(?m)^summary: (\d+)", open(f"{work}/counts.{part}").read()).group(1))
+    return [of("put"), whole - of("put") - of("remove_all"), of("remove_all")]
+
+
+parts = [counts(part + 1) for part in range(len(lines))]
+parts[0] = [parts[0][0] - parts[2][0], parts[0][1], parts[0][2] - parts[2][2]]
+first = {}
+for (order, size), part in zip(lines, parts):
+    least_size, least = first.setdefault(order, (int(size), part))
+    logarithm = math.log(int(size)) / math.log(least_size)
+    grown = ", ".join(f"{call} {all // MOST} instructions ({all / before:.2f})"
+                      for call, all, before in zip(CALLS, part, least))
     print(f"{order}, {size} entries: {grown}; the logarithm {logarithm:.2f}")
 PY
