@@ -26,7 +26,7 @@ use Rattle.pyd_ir.specs.Inputs.{Given, value_of, values_of, both, work_meaning, 
 use Rattle.pyd_effect.specs.declared.settled.Settled.{Settled}
 use Rattle.pyd_effect.specs.declared.settled.Settled.TheVariants.{Passed, Ended, Waits}
 use Rattle.pyd_effect.specs.Settling.{all_there, silent, print, faulty, given_by, settled, settled_ran, settled_or_waits, settle_head}
-use Rattle.pyd_effect.specs.Laws.{IsOwn, Settles, LeafLaw}
+use Rattle.pyd_effect.specs.Laws.{IsOwn, IsSilentCall, Settles, LeafLaw}
 
 -- what an evaluation printed and gave
 settles : (lines : List (List ℕ)) (e : Evaluation Value) (r : Result Value Fault)
@@ -79,36 +79,36 @@ fault-result f = refl
 -- each kind of node
 leaf : (file : File) (limits : Limits) (given : Given) (id at depth : ℕ) (w : Work) (own : Option Ran)
     (e : Evaluation Value)
-    → work_meaning file limits given at depth w ≡ Some e → IsOwn w e own
+    → work_meaning file limits given at depth w ≡ Some e → IsOwn w e own → IsSilentCall w e
     → Settles (settled_or_waits id (given_by w at (map (value_of given) (arguments w)) own)) e
-leaf file limits given id at depth (Op op args) own e is given_own =
+leaf file limits given id at depth (Op op args) own e is given_own quiet =
     let made = mapped-some (λ vs. alone (operation op vs at)) (values_of given args) e is in
     subst (λ o. Settles (settled_or_waits id (option_map silent o)) e) (sym given_own)
     (silent-settles id e (ap (λ d. d.lines) (sym made.2) ∙ op-silent (operation op made.0 at)))
-leaf file limits given id at depth (Read arg kind) own e is given_own =
+leaf file limits given id at depth (Read arg kind) own e is given_own quiet =
     subst (λ o. Settles (settled_or_waits id (option_map silent o)) e) (sym given_own)
     (silent-settles id e (ap (λ d. d.lines) (sym (same_Some _ e is)) ∙ read-silent (value_of given arg) kind (place_of at)))
-leaf file limits given id at depth (Call func args) own e is given_own =
-    subst (λ o. Settles (settled_or_waits id (option_map silent o)) e) (sym given_own.0)
-    (silent-settles id e given_own.1)
-leaf file limits given id at depth (Stop fault) own e is given_own =
+leaf file limits given id at depth (Call func args) own e is given_own quiet =
+    subst (λ o. Settles (settled_or_waits id (option_map silent o)) e) (sym given_own)
+    (silent-settles id e quiet)
+leaf file limits given id at depth (Stop fault) own e is given_own quiet =
     subst (λ d. Settles (settled_or_waits id (Some (faulty fault))) d) (same_Some (faults fault) e is)
     (settles [] (faults fault) (Err fault) (op-silent (Err fault)) (fault-result fault))
-leaf file limits given id at depth (Print args) own e is given_own =
+leaf file limits given id at depth (Print args) own e is given_own quiet =
     let made = mapped-some (λ vs. builtin_called named.Print vs at) (values_of given args) e is in
     let there = all_values given args ∙ made.1 in
     subst (λ o. Settles (settled_or_waits id (option_map (λ vs. print (line vs at)) o)) e) (sym there)
     (subst (λ d. Settles (settled_or_waits id (Some (print (line made.0 at)))) d) made.2
     (printed-settles id (line made.0 at)))
-leaf file limits given id at depth (Run func args) own e is given_own =
+leaf file limits given id at depth (Run func args) own e is given_own quiet =
     subst (λ o. Settles (settled_or_waits id o) e) (sym given_own) (own-settles id e)
-leaf file limits given id at depth (Cond test stmt arm rest env) own e is given_own = absurd (none-some e is)
-leaf file limits given id at depth (While test stmt turns rest env) own e is given_own = absurd (none-some e is)
-leaf file limits given id at depth (For over stmt turns rest env) own e is given_own = absurd (none-some e is)
-leaf file limits given id at depth (Pick test first second env) own e is given_own = absurd (none-some e is)
-leaf file limits given id at depth (Enter func args) own e is given_own = absurd (none-some e is)
+leaf file limits given id at depth (Cond test stmt arm rest env) own e is given_own quiet = absurd (none-some e is)
+leaf file limits given id at depth (While test stmt turns rest env) own e is given_own quiet = absurd (none-some e is)
+leaf file limits given id at depth (For over stmt turns rest env) own e is given_own quiet = absurd (none-some e is)
+leaf file limits given id at depth (Pick test first second env) own e is given_own quiet = absurd (none-some e is)
+leaf file limits given id at depth (Enter func args) own e is given_own quiet = absurd (none-some e is)
 
 -- the law
 pub leaves : LeafLaw
-leaves file limits given node own e is given_own =
-    leaf file limits given node.id node.line node.depth node.work own e is given_own
+leaves file limits given node own e is given_own quiet =
+    leaf file limits given node.id node.line node.depth node.work own e is given_own quiet

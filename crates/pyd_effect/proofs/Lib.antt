@@ -1,3 +1,4 @@
 pub mod Waits
 pub mod Leaves
 pub mod Walking
+pub mod Functional

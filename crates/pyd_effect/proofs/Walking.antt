@@ -78,6 +78,6 @@ walk_settles file limits given node e s (Enter func args) is made h =
 
 -- the law
 pub walks : WalkLaw
-walks file limits given node own e made given_own =
+walks file limits given node own e made given_own quiet =
     walk_settles file limits given node e _ node.work refl made
-    (leaf_settles file limits given node e _ made (leaves file limits given node own e made given_own))
+    (leaf_settles file limits given node e _ made (leaves file limits given node own e made given_own quiet))

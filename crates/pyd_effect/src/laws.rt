@@ -10,3 +10,9 @@ pub fn leaf_law()
 pub fn walk_law()
     ensures { law.WalkLaw }
 {}
+
+/// Both, of a node of a file that breaks no rule: what it calls as pure is `@functional`, and so prints
+/// nothing.
+pub fn functional_law()
+    ensures { law.FunctionalLaw }
+{}

@@ -5,7 +5,7 @@ mod laws;
 mod settled;
 mod settling;
 
-pub use laws::{leaf_law, walk_law};
+pub use laws::{functional_law, leaf_law, walk_law};
 pub use settled::Settled;
 pub use settling::settle_head;
 
