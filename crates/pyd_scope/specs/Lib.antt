@@ -15,3 +15,11 @@ pub mod Tables
 pub mod Once
 pub mod Standings
 pub mod UseRules
+pub mod Parting
+pub mod Blocks
+pub mod Runs
+pub mod Placed
+pub mod Cells
+pub mod Closing
+pub mod Locating
+pub mod Indexing

@@ -1,5 +1,5 @@
 -- The numbers of a routine's statements and expressions, from 0 in text order, each before its parts.
-use Rattle.std.specs.Prelude.{ℕ, zero, suc, ◌+◌, List, [], ◌∷◌, ◌++◌, map, length, Option, Some, None}
+use Rattle.std.specs.Prelude.{◌≡◌, ℕ, zero, suc, ◌+◌, List, [], ◌∷◌, ◌++◌, map, length, drop, Option, Some, None}
 use Rattle.std.specs.List.{flat_map}
 use Rattle.pyd_tree.specs.declared.expression.Expr.{Expr, roll-Expr, fold-Expr}
 use Rattle.pyd_tree.specs.declared.expression.Expr.TheOpen.{Expr-F, Suffix-F}
@@ -242,6 +242,11 @@ inside p = point (suc p.statement) p.expression
 abbrev pub past_statement : Stmt → Point → Point
 past_statement s p = past (inner s) (inside p)
 
+-- the place behind the first of some statements that begin at a place
+abbrev pub past_first : List Stmt → Point → Point
+past_first [] p = p
+past_first (s ∷ ss) p = past_statement s p
+
 -- where a routine begins
 abbrev pub start : Point
 start = point 0 0
@@ -263,3 +268,7 @@ table file routine = (contents (body file routine)).table 0
 -- a routine's expressions, by their numbers
 abbrev pub expression_table : File → ℕ → List Expr
 expression_table file routine = (contents (body file routine)).expressions
+
+-- these stand in a table from a number on
+abbrev pub Stands : {A : Type 0} → List A → ℕ → List A → Type 0
+Stands {A} table k xs = (more : List A) × (drop k table ≡ xs ++ more)

@@ -5,6 +5,7 @@ ghost use Rattle.pyd_scope.specs.Checks as spec;
 ghost use Rattle.pyd_scope.specs.Parts as parts;
 ghost use Rattle.pyd_scope.specs.Answers.{IsStop};
 
+use crate::index::Index;
 use crate::refusals::refusal;
 use crate::routine::{add_item, add_module};
 use crate::tables::Tables;
@@ -43,11 +44,13 @@ fn program(alloc: Global, file: File) -> Result<Program, NoMemory>
     let routines = routines(alloc, &file)?;
     let constants = constants(alloc, &file)?;
     let tables = Tables::of(alloc, &file)?;
+    let index = Index::of(alloc, &file)?;
     Ok(Program {
         file,
         routines,
         constants,
         tables,
+        index,
     })
 }
 

@@ -4,9 +4,11 @@ ghost use Rattle.pyd_names.specs.WellFormed.{IsWellFormed};
 ghost use Rattle.pyd_names.specs.Binding as names;
 ghost use Rattle.pyd_scope.specs.Checks as spec;
 ghost use Rattle.pyd_scope.specs.Parts as parts;
+ghost use Rattle.pyd_scope.specs.Indexing.{index_of};
 ghost use Rattle.pyd_scope.specs.Tables.{AreTables};
 
 use crate::Routine;
+use crate::index::Index;
 use crate::tables::Tables;
 use pyd_tree::File;
 use pyd_value::{List, Text, Value};
@@ -22,9 +24,12 @@ pub struct Program {
     pub constants: List<(Text, Value)>,
     /// What `resolve` knows of names without a search.
     pub(crate) tables: Tables,
+    /// Where statements and expressions stand, by their numbers.
+    pub(crate) index: Index,
     ghost well_formed: { IsWellFormed file },
     ghost accepted: { spec.refusal file ≡ None },
     ghost its_routines: { routines ≡ parts.routines file },
     ghost its_constants: { constants ≡ names.constants file },
     ghost its_tables: { AreTables file tables },
+    ghost its_index: { index ≡ index_of file },
 }
