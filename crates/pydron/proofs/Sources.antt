@@ -15,6 +15,7 @@ use Rattle.pyd_scope.specs.declared.refusal.Refusal.{Refusal}
 use Rattle.pyd_scope.specs.Checks.{Parts, answer, refusal, parts, unless_refused}
 use Rattle.pyd_scope.specs.Parts.{routines}
 use Rattle.pyd_scope.specs.Tables.{AreTables}
+use Rattle.pyd_scope.specs.Indexing.{index_of}
 use Rattle.pyd_names.specs.Binding.{constants}
 use Rattle.pydron.specs.declared.source_stop.SourceStop.{SourceStop}
 use Rattle.pydron.specs.declared.source_stop.SourceStop.TheVariants as stop
@@ -115,11 +116,13 @@ checked laws bytes f fits read None is =
         routines = routines f;
         constants = constants f;
         tables = [];
+        index = index_of f;
         well_formed = laws.formed bytes read.tokens f read.reads fits read.parses.0;
         accepted = is;
         its_routines = refl;
         its_constants = refl;
         its_tables = no_tables f;
+        its_index = refl;
       },
       fits,
       record { file = read; checks = ap (unless_refused (parts f)) is },
