@@ -35,9 +35,9 @@ use Rattle.pyd_translate.specs.Walk.{acts, rested, then_rest, if_there, count_co
 use Rattle.pyd_translate.specs.Matching.{AreSlots, HaveValues, Matches}
 use Rattle.pyd_translate.proofs.Slots.{slots_bind, slots_unbound}
 use Rattle.pyd_refine.specs.Composites.{started, with_parameters, body_refined, function_refined}
-use Rattle.pyd_refine.specs.Readiness.{ArePorts, TakesPlace}
 use Rattle.pyd_refine.proofs.Ordering.{second-true, test-equal}
-use Rattle.pyd_refine.proofs.Pieces.{takes-place, only-returned}
+use Rattle.pyd_refine.proofs.Ports.{AreImages}
+use Rattle.pyd_refine.proofs.Pieces.{Replaces, takes-place, only-returned}
 use Rattle.pyd_refine.proofs.Starting.{started-does}
 use Rattle.pyd_refine.proofs.Translated.{AreListed}
 use Rattle.pyd_refine.proofs.Sides.{stop-takes}
@@ -142,7 +142,7 @@ module _ (file : File) (limits : Limits) (func : ℕ) (args : List Arg) (routine
     -- with so many depths left
     body-takes : (left : ℕ) → limits.depth - depth ≡ left → length args ≡ length f.params
         → (vs : List Value) → values_of given args ≡ Some vs → length vs ≡ length args
-        → TakesPlace file limits ids given (body_refined file left func f args at ids) (count_composite 0 (called vs))
+        → Replaces file limits ids given (body_refined file left func f args at ids) (count_composite 0 (called vs))
     body-takes zero e even vs are many =
         let above : limits.depth < suc depth = omega (arith, e) in
         stop-takes file limits ids 0 given at (Limit Depth line) (called vs)
@@ -159,7 +159,7 @@ module _ (file : File) (limits : Limits) (func : ℕ) (args : List Arg) (routine
         let same : b.0 ≡ vs = values-same b.0 vs (sym b.2 ∙ are) in
         let env = with_parameters slots (unbound_slots slots) ps args in
         takes-place file limits 0 ids given 0 _ (called vs) (omega arith)
-        (subst (λ m. Matches file limits 0 ids given (body_refined file (suc left) func f args at ids) m ArePorts)
+        (subst (λ m. Matches file limits 0 ids given (body_refined file (suc left) func f args at ids) m AreImages)
         (body-does b.1 vs (ap (bind_all no_names ps) (sym same) ∙ b.3) within)
         (only-returned file limits 0 ids given slots (started file func (suc depth) start.Body [] env) _
         (started-does file limits func (suc depth) start.Body [] ids given env b.1 tt b.4)))
@@ -178,7 +178,7 @@ module _ (file : File) (limits : Limits) (func : ℕ) (args : List Arg) (routine
     -- as many arguments as parameters, or a TypeError
     count-takes : (b : Bool) → nat_eq (length args) (length f.params) ≡ b
         → (vs : List Value) → values_of given args ≡ Some vs → length vs ≡ length args
-        → TakesPlace file limits ids given
+        → Replaces file limits ids given
         ((if b then body_refined file (limits.depth - depth) func f args at else stop_by at TypeError) ids)
         (count_composite 0 (called vs))
     count-takes true e vs are many =
@@ -195,7 +195,7 @@ module _ (file : File) (limits : Limits) (func : ℕ) (args : List Arg) (routine
   -- a function that is there, or a NameError
   function-takes : (o : Option Func) → function file func ≡ o
       → (vs : List Value) → values_of given args ≡ Some vs → length vs ≡ length args
-      → TakesPlace file limits ids given (function_refined file limits o func args at ids) (count_composite 0 (called vs))
+      → Replaces file limits ids given (function_refined file limits o func args at ids) (count_composite 0 (called vs))
   function-takes None e vs are many =
       stop-takes file limits ids 0 given at (Raised NameError line) (called vs)
       (ap (λ m. m >>= (λ u. gives (only_port u))) (not-found file limits _ func line vs e)
@@ -204,10 +204,10 @@ module _ (file : File) (limits : Limits) (func : ℕ) (args : List Arg) (routine
       count-takes f e (nat_eq (length args) (length f.params)) refl vs are many
 
   -- an Enter
-  pub enter-takes : TakesPlace file limits ids given (function_refined file limits (function file func) func args at ids)
+  pub enter-takes : Replaces file limits ids given (function_refined file limits (function file func) func args at ids)
       (if_there (values_of given args) line (λ vs. count_composite 0 (called vs)))
   enter-takes =
       let v = values-there ids given args have in
-      subst (λ o. TakesPlace file limits ids given (function_refined file limits (function file func) func args at ids)
+      subst (λ o. Replaces file limits ids given (function_refined file limits (function file func) func args at ids)
       (if_there o line (λ vs. count_composite 0 (called vs)))) (sym v.1)
       (function-takes (function file func) refl v.0 v.1 v.2)

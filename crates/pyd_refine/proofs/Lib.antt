@@ -17,3 +17,7 @@ pub mod Naming
 pub mod Newness
 pub mod Refining
 pub mod Rules
+pub mod Needs
+pub mod Stocking
+pub mod Later
+pub mod Supply

@@ -1,5 +1,5 @@
 -- When the piece of a composite takes its place: by what its nodes do, and how many steps a composite counts.
-use Rattle.std.proofs.Common.{◌≡◌, ℕ, ◌+◌, ◌*◌, ◌≤◌, List, append-nil, refl, sym, ap, subst, ◌∙◌, arith, Option, Some, None, Result, Ok, Err}
+use Rattle.std.proofs.Common.{◌≡◌, ℕ, ◌+◌, ◌*◌, ◌≤◌, ◌<◌, List, append-nil, refl, sym, ap, subst, ◌∙◌, arith, Option, Some, None, Result, Ok, Err}
 use Rattle.pyd_value.specs.declared.value.Value.{Value}
 use Rattle.pyd_value.specs.declared.fault.Fault.{Fault}
 use Rattle.pyd_tree.specs.declared.file.File.{File}
@@ -17,7 +17,39 @@ use Rattle.pyd_translate.proofs.Sequencing.{matches-then, matches-pure}
 use Rattle.pyd_translate.proofs.Slots.{IsWithin, slots_within}
 use Rattle.pyd_refine.specs.Composites.{only_value}
 use Rattle.pyd_refine.specs.Readiness.{Yields, ArePorts, TakesPlace}
-use Rattle.pyd_refine.proofs.Ports.{locals-distinct, finish-ports, value-ports}
+use Rattle.pyd_refine.proofs.Ports.{AreImages, locals-distinct, finish-ports, value-ports}
+
+-- the walk of a piece that was made from number ids takes the place of a node, and what stands in the place of the node's ports is given
+pub record Replaces (file : File) (limits : Limits) (ids : ℕ) (given : Given) (p : Piece Done)
+    (node : Evaluation Ports) : Type 0 where
+  pub lines : (walk file limits p.nodes given).lines ≡ node.lines
+  pub ends :
+      AreAlike (walk file limits p.nodes given).result p.got node.result
+      (IsReached ids given p.next AreImages)
+  pub fewer : (walk file limits p.nodes given).steps < node.steps
+
+alike-by : {A B : Type 0} (wr : Result Given Fault) (got : Option A) (mr : Result B Fault)
+    (R S : Given → A → B → Type 0)
+    → ((after : Given) (a : A) (b : B) → R after a b → S after a b) → AreAlike wr got mr R → AreAlike wr got mr S
+alike-by (Ok after) (Some a) (Ok b) R S to alike = to after a b alike
+alike-by (Ok after) None (Ok b) R S to alike = absurd alike
+alike-by (Ok after) got (Err f) R S to alike = absurd alike
+alike-by (Err f) got (Ok b) R S to alike = absurd alike
+alike-by (Err f) (Some a) (Err e) R S to alike = alike
+alike-by (Err f) None (Err e) R S to alike = alike
+
+-- it takes the node's place
+pub replaces-takes : (file : File) (limits : Limits) (ids : ℕ) (given : Given) (p : Piece Done)
+    (node : Evaluation Ports)
+    → Replaces file limits ids given p node → TakesPlace file limits ids given p node
+replaces-takes file limits ids given p node is = record {
+  lines = is.lines;
+  ends =
+      alike-by (walk file limits p.nodes given).result p.got node.result
+      (IsReached ids given p.next AreImages) (IsReached ids given p.next ArePorts)
+      (λ after d ports reached. record { grown = reached.grown; kept = reached.kept; related = reached.related.0 }) is.ends;
+  fewer = is.fewer;
+}
 
 module _ (file : File) (limits : Limits) (more ids : ℕ) (given : Given) where
   mapped : {A B C : Type 0} (p : Piece A) (R : Relation A B) (S : Relation A C) (f : B → C)
@@ -67,8 +99,8 @@ module _ (file : File) (limits : Limits) (more ids : ℕ) (given : Given) where
 
   -- a composite counts more steps than its piece
   pub takes-place : (frames : ℕ) (p : Piece Done) (m : Evaluation Ports) → more ≤ 1 + 2 * frames
-      → Matches file limits more ids given p m ArePorts
-      → TakesPlace file limits ids given p (count_composite frames m)
+      → Matches file limits more ids given p m AreImages
+      → Replaces file limits ids given p (count_composite frames m)
   takes-place frames p m le is = record {
     lines = is.lines;
     ends = is.ends;
@@ -78,11 +110,11 @@ module _ (file : File) (limits : Limits) (more ids : ℕ) (given : Given) where
   -- a piece of statements in the place of a composite with slots
   pub takes-slots : (routine frames : ℕ) (p : Piece Done) (m : Evaluation Finish) → more ≤ 1 + 2 * frames
       → Matches file limits more ids given p m (IsFinish (locals file routine))
-      → TakesPlace file limits ids given p
+      → Replaces file limits ids given p
       (count_composite frames (m >>= (λ fin. gives (slot_values (locals file routine) fin.names fin.value))))
   takes-slots routine frames p m le is =
       takes-place frames p _ le
-      (matches-map p m (IsFinish (locals file routine)) ArePorts
+      (matches-map p m (IsFinish (locals file routine)) AreImages
       (λ fin. slot_values (locals file routine) fin.names fin.value)
       (λ next after d fin. finish-ports (locals file routine) next after d fin (locals-distinct file routine)) is)
 
@@ -113,21 +145,21 @@ module _ (file : File) (limits : Limits) (more ids : ℕ) (given : Given) where
 -- a value and no slots
 pub only-value : (file : File) (limits : Limits) (more ids : ℕ) (given : Given) (u : Making Arg) (m : Evaluation Value)
     → Matches file limits more ids given (u ids) m HasValue
-    → Matches file limits more ids given ((u >>> (λ a. pure (only_value a))) ids) (m >>= (λ v. gives (only_port v))) ArePorts
+    → Matches file limits more ids given ((u >>> (λ a. pure (only_value a))) ids) (m >>= (λ v. gives (only_port v))) AreImages
 only-value file limits more ids given u m is =
     let count : more + 0 ≡ more = omega arith in
-    subst (λ n. Matches file limits n ids given ((u >>> (λ a. pure (only_value a))) ids) (m >>= (λ v. gives (only_port v))) ArePorts) count
-    (matches-then file limits more 0 ids given HasValue ArePorts u (λ a. pure (only_value a)) m (λ v. gives (only_port v)) is
-    (λ next mid a v reached. matches-pure file limits 0 next mid ArePorts (only_value a) (only_port v)
-    (value-ports next mid a v reached.related.0)))
+    subst (λ n. Matches file limits n ids given ((u >>> (λ a. pure (only_value a))) ids) (m >>= (λ v. gives (only_port v))) AreImages) count
+    (matches-then file limits more 0 ids given HasValue AreImages u (λ a. pure (only_value a)) m (λ v. gives (only_port v)) is
+    (λ next mid a v reached. matches-pure file limits 0 next mid AreImages (only_value a) (only_port v)
+    (value-ports next mid a v reached.related)))
 
 -- the value of a piece of statements, and no slots
 pub only-returned : (file : File) (limits : Limits) (more ids : ℕ) (given : Given) (slots : List (List ℕ)) (u : Making Done) (m : Evaluation Finish)
     → Matches file limits more ids given (u ids) m (IsFinish slots)
-    → Matches file limits more ids given ((u >>> (λ d. pure (only_value d.value))) ids) (m >>= (λ fin. gives (only_port fin.value))) ArePorts
+    → Matches file limits more ids given ((u >>> (λ d. pure (only_value d.value))) ids) (m >>= (λ fin. gives (only_port fin.value))) AreImages
 only-returned file limits more ids given slots u m is =
     let count : more + 0 ≡ more = omega arith in
-    subst (λ n. Matches file limits n ids given ((u >>> (λ d. pure (only_value d.value))) ids) (m >>= (λ fin. gives (only_port fin.value))) ArePorts) count
-    (matches-then file limits more 0 ids given (IsFinish slots) ArePorts u (λ d. pure (only_value d.value)) m (λ fin. gives (only_port fin.value)) is
-    (λ next mid d fin reached. matches-pure file limits 0 next mid ArePorts (only_value d.value) (only_port fin.value)
-    (value-ports next mid d.value fin.value reached.related.value.0)))
+    subst (λ n. Matches file limits n ids given ((u >>> (λ d. pure (only_value d.value))) ids) (m >>= (λ fin. gives (only_port fin.value))) AreImages) count
+    (matches-then file limits more 0 ids given (IsFinish slots) AreImages u (λ d. pure (only_value d.value)) m (λ fin. gives (only_port fin.value)) is
+    (λ next mid d fin reached. matches-pure file limits 0 next mid AreImages (only_value d.value) (only_port fin.value)
+    (value-ports next mid d.value fin.value reached.related.value)))

@@ -9,11 +9,13 @@ use Rattle.pyd_names.proofs.Names.{same_is, is_same}
 use Rattle.pyd_meaning.specs.Names.{Names}
 use Rattle.pyd_ir.specs.declared.arg.Arg.{Arg}
 use Rattle.pyd_ir.specs.Inputs.{Given, value_of}
-use Rattle.pyd_ir.specs.Ports.{only_port}
+use Rattle.pyd_ir.specs.Ports.{Ports, only_port}
 use Rattle.pyd_translate.specs.Slots.{arg_of}
 use Rattle.pyd_translate.specs.Statements.{Done}
 use Rattle.pyd_translate.specs.Walk.{slot_values, Finish}
-use Rattle.pyd_translate.specs.Matching.{IsFinish}
+use Rattle.pyd_translate.specs.Matching.{AreGiven, HasValue, IsFinish}
+use Rattle.pyd_translate.proofs.Keeping.{given-has}
+use Rattle.pyd_translate.proofs.Supplying.{given-both}
 use Rattle.pyd_refine.specs.Composites.{only_value}
 use Rattle.pyd_refine.specs.Redirecting.{image, images}
 use Rattle.pyd_refine.specs.Readiness.{ArePorts}
@@ -95,16 +97,28 @@ images-have (s ∷ ss) (b ∷ env) a names v given l d f e (suc port) =
     (λ x p. ap (λ t. value_of given (if t then b else arg_of ss env x)) (sym (behind-apart ss s x (same_name x s) refl d.0 p))
     ∙ f x (second-true (same_name x s) (is_among ss x) p)) e port
 
+-- what stands in the place of the ports has their values, and is given
+abbrev pub AreImages : ℕ → Given → Done → Ports → Type 0
+AreImages next given done ports =
+    ArePorts next given done ports × AreGiven next given (images done.env done.value)
+
 -- a piece of statements, in the place of a composite with slots
 pub finish-ports : (slots : List (List ℕ)) (next : ℕ) (given : Given) (d : Done) (fin : Finish)
     → AreDistinct slots → IsFinish slots next given d fin
-    → ArePorts next given d (slot_values slots fin.names fin.value)
-finish-ports slots next given d fin apart is =
-    images-have slots d.env d.value fin.names fin.value given is.env.count apart
-    (λ x p. ap (λ (n : Names). n x) is.env.bound) is.value.0
+    → AreImages next given d (slot_values slots fin.names fin.value)
+finish-ports slots next given d fin apart is = (
+  images-have slots d.env d.value fin.names fin.value given is.env.count apart
+      (λ x p. ap (λ (n : Names). n x) is.env.bound) is.value.0,
+  given-both next given d.env (d.value ∷ []) is.env.all_given (given-has next given d.value fin.value is.value, tt),
+)
+
+-- a value's port
+value-port : (given : Given) (a : Arg) (v : Value) → value_of given a ≡ Some v
+    → (port : ℕ) → value_of given (image (images [] a) port) ≡ only_port v port
+value-port given a v e zero = e
+value-port given a v e (suc port) = refl
 
 -- a value alone, in the place of a composite without slots
 pub value-ports : (next : ℕ) (given : Given) (a : Arg) (v : Value)
-    → value_of given a ≡ Some v → ArePorts next given (only_value a) (only_port v)
-value-ports next given a v e zero = e
-value-ports next given a v e (suc port) = refl
+    → HasValue next given a v → AreImages next given (only_value a) (only_port v)
+value-ports next given a v has = (value-port given a v has.0, (given-has next given a v has, tt))

@@ -26,7 +26,7 @@ image-among known (a ∷ args) (suc port) p = image-among known args port p.1
 
 module _ (id : ℕ) (ports : List Arg) where
   -- the iterables of redirected frames
-  rest-redirects : (rest : List Frame)
+  pub rest-redirects : (rest : List Frame)
       → rest_arguments (redirect_rest id ports rest) ≡ redirect_all id ports (rest_arguments rest)
   rest-redirects [] = refl
   rest-redirects (After k ∷ rest) = rest-redirects rest
@@ -41,7 +41,7 @@ module _ (id : ℕ) (ports : List Arg) where
       ∙ sym (map-append (redirect id ports) (rest_arguments rest) env)
 
   -- the argument of a redirected side
-  side-redirects : (s : Side)
+  pub side-redirects : (s : Side)
       → side_arguments (redirect_side id ports s) ≡ redirect_all id ports (side_arguments s)
   side-redirects (side.Arg a) = refl
   side-redirects (side.Expr k) = refl

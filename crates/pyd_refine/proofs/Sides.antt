@@ -19,8 +19,9 @@ use Rattle.pyd_translate.specs.Matching.{AreSlots, HasValue, HaveValues, Matches
 use Rattle.pyd_translate.proofs.Sequencing.{matches-stop}
 use Rattle.pyd_translate.proofs.SidesMatch.{sides_match}
 use Rattle.pyd_refine.specs.Composites.{side_refined}
-use Rattle.pyd_refine.specs.Readiness.{HasSlots, ArePorts, TakesPlace}
-use Rattle.pyd_refine.proofs.Pieces.{takes-place, only-value}
+use Rattle.pyd_refine.specs.Readiness.{HasSlots}
+use Rattle.pyd_refine.proofs.Ports.{AreImages}
+use Rattle.pyd_refine.proofs.Pieces.{Replaces, takes-place, only-value}
 
 -- slots that are given have the names that their arguments have
 pub filled-slots : (slots : List (List ℕ)) (ids : ℕ) (given : Given) (env : List Arg)
@@ -47,7 +48,7 @@ module _ (file : File) (limits : Limits) where
     -- a Pick, by the truth of its test
     pub pick-takes : (b : Bool) → HaveValues ids given (side_arguments first) → HaveValues ids given (side_arguments second)
         → HasSlots (locals file routine) ids given env
-        → TakesPlace file limits ids given
+        → Replaces file limits ids given
         (side_refined file b first second (context routine depth line env) ids)
         (count_composite 0 (branch b (side_meaning file limits routine depth given first (place_of line))
         (side_meaning file limits routine depth given second (place_of line)) (names_of (locals file routine) env given)
@@ -60,8 +61,8 @@ module _ (file : File) (limits : Limits) where
   -- a Stop in the place of a composite that faults at once
   pub stop-takes : (ids frames : ℕ) (given : Given) (at : Context) (fault : _) (m : Evaluation _)
       → m ≡ faults fault
-      → TakesPlace file limits ids given (stop at fault ids) (count_composite frames m)
+      → Replaces file limits ids given (stop at fault ids) (count_composite frames m)
   stop-takes ids frames given at fault m is =
       takes-place file limits 1 ids given frames (stop at fault ids) m (omega arith)
-      (subst (λ e. Matches file limits 1 ids given (stop at fault ids) e ArePorts) (sym is)
-      (matches-stop file limits ids given ArePorts at fault))
+      (subst (λ e. Matches file limits 1 ids given (stop at fault ids) e AreImages) (sym is)
+      (matches-stop file limits ids given AreImages at fault))

@@ -73,7 +73,7 @@ give-same : (n m port : ℕ) (new : Ports) (given : Given) → nat_eq m n ≡ tr
 give-same n m port new given e = ap (λ t. (if t then new else given m) port) e
 
 -- an argument that names another node has what it had
-give-apart : (known : Numbers) (n : ℕ) (new : Ports) (given : Given) (a : Arg)
+pub give-apart : (known : Numbers) (n : ℕ) (new : Ports) (given : Given) (a : Arg)
     → known n ≡ false → IsAmong known a → value_of (give n new given) a ≡ value_of given a
 give-apart known n new given (Known v) q p = refl
 give-apart known n new given (From r) q p = give-other n r.node r.port new given (known-apart known r.node n p q)
@@ -197,7 +197,7 @@ module _ (id : ℕ) (ports : List Arg) where
             >>= (λ fin. gives (slot_values (locals file routine) fin.names fin.value)))
 
       -- a node's work
-      work-same : (w : Work) (n : Node) → AreAmong known (arguments n.work) → AreAmong known (arguments w)
+      pub work-same : (w : Work) (n : Node) → AreAmong known (arguments n.work) → AreAmong known (arguments w)
           → work_ports file limits (redirect_work id ports w) (redirect_node id ports n) instead
           ≡ work_ports file limits w n given
       work-same (Op op args) n p q = leaf-same n.line n.depth n.work p
@@ -231,7 +231,7 @@ module _ (id : ℕ) (ports : List Arg) where
           >>= (λ u. gives (only_port u))))
 
   -- a node that is given on both sides, and that nothing in the place of the ports names
-  give-stands : (known more : Numbers) (n : ℕ) (new : Ports) (given instead : Given)
+  pub give-stands : (known more : Numbers) (n : ℕ) (new : Ports) (given instead : Given)
       → nat_eq n id ≡ false → more n ≡ false → AreAmong more ports → StandsFor known given instead
       → StandsFor (and_one known n) (give n new given) (give n new instead)
   give-stands known more n new given instead apart fresh images same a p = go a p

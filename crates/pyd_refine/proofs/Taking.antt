@@ -24,8 +24,8 @@ use Rattle.pyd_translate.specs.Compounds.{Compound, Choice, WhileLoop, ForLoop, 
 use Rattle.pyd_translate.specs.Walk.{names_of, from_turn, from_arm, then_rest, side_meaning, count_composite, if_there, ported_meaning, work_ports}
 use Rattle.pyd_translate.specs.Matching.{IsBelow, AreBelow, AreSlots, IsFinish, Matches}
 use Rattle.pyd_refine.specs.Composites.{loop_refined, work_refined, refined}
-use Rattle.pyd_refine.specs.Readiness.{IsLoopNode, IsReadyFor, IsReady, control_value, TakesPlace}
-use Rattle.pyd_refine.proofs.Pieces.{takes-slots}
+use Rattle.pyd_refine.specs.Readiness.{IsLoopNode, IsReadyFor, IsReady, control_value}
+use Rattle.pyd_refine.proofs.Pieces.{Replaces, takes-slots}
 use Rattle.pyd_refine.proofs.Sides.{filled-slots, pick-takes}
 use Rattle.pyd_refine.proofs.Entering.{enter-takes}
 use Rattle.pyd_refine.proofs.Conds.{cond-takes}
@@ -57,14 +57,14 @@ module _ (file : File) (limits : Limits) where
   -- a While or a For
   loop-takes : (node : Node) (ids : ℕ) (given : Given) (a : Arg) (k turns : ℕ) (rest : List Frame) (env : List Arg)
       → IsLoopNode file ids given node a k rest env → (v : Value) → value_of given a ≡ Some v
-      → TakesPlace file limits ids given
+      → Replaces file limits ids given
       (loop_refined file limits node.routine node.depth k rest (compound_at file node.routine k) (line_at file node.routine k) turns a v env ids)
       (if_there (value_of given a) node.line (λ w. ported_meaning file limits node.routine node.depth
       (from_turn (setting_at file limits node.routine node.depth) (compound_at file node.routine k) (line_at file node.routine k) turns w
       (names_of (locals file node.routine) env given)) given rest))
   loop-takes node ids given a k turns rest env ready v has =
       let on = ready.goes_on in
-      subst (λ o. TakesPlace file limits ids given
+      subst (λ o. Replaces file limits ids given
       (loop_refined file limits node.routine node.depth k rest (compound_at file node.routine k) (line_at file node.routine k) turns a v env ids)
       (if_there o node.line (λ w. ported_meaning file limits node.routine node.depth
       (from_turn (setting_at file limits node.routine node.depth) (compound_at file node.routine k) (line_at file node.routine k) turns w
@@ -77,7 +77,7 @@ module _ (file : File) (limits : Limits) where
   -- each composite, where the value of its control is there
   work-takes : (w : Work) (node : Node) (chosen : Option Value) (ids : ℕ) (given : Given)
       → IsReadyFor file ids given chosen w node → control_value given w ≡ chosen
-      → TakesPlace file limits ids given (work_refined file limits w node chosen ids) (work_ports file limits w node given)
+      → Replaces file limits ids given (work_refined file limits w node chosen ids) (work_ports file limits w node given)
   work-takes (Op op args) node chosen ids given ready e = absurd ready
   work-takes (Read arg kind) node chosen ids given ready e = absurd ready
   work-takes (Call func args) node chosen ids given ready e = absurd ready
@@ -87,7 +87,7 @@ module _ (file : File) (limits : Limits) where
   work-takes (Cond test k arm rest env) node None ids given ready e = absurd ready.0
   work-takes (Cond test k arm rest env) node (Some v) ids given ready e =
       let on = ready.1 in
-      subst (λ o. TakesPlace file limits ids given (work_refined file limits (Cond test k arm rest env) node (Some v) ids)
+      subst (λ o. Replaces file limits ids given (work_refined file limits (Cond test k arm rest env) node (Some v) ids)
       (if_there o node.line (λ w. ported_meaning file limits node.routine node.depth
       (from_arm (setting_at file limits node.routine node.depth) (compound_at file node.routine k) arm w
       (names_of (locals file node.routine) env given)) given rest))) (sym e)
@@ -103,7 +103,7 @@ module _ (file : File) (limits : Limits) where
       loop-takes node ids given over k turns rest env ready.1 v e
   work-takes (Pick test first second env) node None ids given ready e = absurd ready.0
   work-takes (Pick test first second env) node (Some v) ids given ready e =
-      subst (λ o. TakesPlace file limits ids given (work_refined file limits (Pick test first second env) node (Some v) ids)
+      subst (λ o. Replaces file limits ids given (work_refined file limits (Pick test first second env) node (Some v) ids)
       (if_there o node.line (λ w. count_composite 0 (branch (is_true w)
       (side_meaning file limits node.routine node.depth given first (place_of node.line))
       (side_meaning file limits node.routine node.depth given second (place_of node.line))
@@ -115,5 +115,5 @@ module _ (file : File) (limits : Limits) where
 
   -- each composite that is ready
   pub piece-takes : (node : Node) (chosen : Option Value) (ids : ℕ) (given : Given) → IsReady file ids given node chosen
-      → TakesPlace file limits ids given (refined file limits node chosen ids) (work_ports file limits node.work node given)
+      → Replaces file limits ids given (refined file limits node chosen ids) (work_ports file limits node.work node given)
   piece-takes node chosen ids given ready = work-takes node.work node chosen ids given ready.fields ready.value

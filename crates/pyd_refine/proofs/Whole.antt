@@ -44,7 +44,7 @@ module _ (file : File) (limits : Limits) (known : Numbers) (ids : ℕ) (below : 
     (node : Node) (after : List Node) (order : IsOrdered known ids (node ∷ after)) (given : Given)
     (env : List Arg) where
   -- behind the piece, what stands in the place of the ports has their values
-  piece-stands : (reached : Given) (d : Done) (ports : Ports)
+  pub piece-stands : (reached : Given) (d : Done) (ports : Ports)
       → IsKept ids given reached → ((port : ℕ) → value_of reached (image (images d.env d.value) port) ≡ ports port)
       → StandsFor node.id (images d.env d.value) (and_one known node.id) (give node.id ports given) reached
   piece-stands reached d ports kept are a p = go a p

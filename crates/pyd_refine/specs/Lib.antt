@@ -4,3 +4,4 @@ pub mod Ordering
 pub mod Readiness
 pub mod Laws
 pub mod Rules
+pub mod Supply

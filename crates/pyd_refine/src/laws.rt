@@ -1,6 +1,7 @@
 //! The laws of refining: contracts of functions with empty bodies.
 ghost use Rattle.pyd_refine.specs.Laws.{FoundLaw, PieceLaw, PieceOrder, RefineLaw, SubstitutionLaw};
 ghost use Rattle.pyd_refine.specs.Rules.{RuleLaws};
+ghost use Rattle.pyd_refine.specs.Supply.{ReadyLaw, SupplyLaw};
 
 /// What the piece of each composite is, in each way in which it goes on.
 pub fn rule_laws()
@@ -35,4 +36,16 @@ pub fn piece_order_law()
 /// composite's place.
 pub fn refine_law()
     ensures { RefineLaw }
+{}
+
+/// In a list whose nodes have what they need, a composite whose control has a value wherever the walk leads
+/// to it is ready there.
+pub fn ready_law()
+    ensures { ReadyLaw }
+{}
+
+/// In such a list in order, the piece of a composite that is ready may take the composite's place: each node
+/// of the list then has what it needs.
+pub fn supply_law()
+    ensures { SupplyLaw }
 {}

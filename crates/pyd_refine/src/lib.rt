@@ -3,4 +3,7 @@
 
 mod laws;
 
-pub use laws::{found_law, piece_law, piece_order_law, refine_law, rule_laws, substitution_law};
+pub use laws::{
+    found_law, piece_law, piece_order_law, ready_law, refine_law, rule_laws, substitution_law,
+    supply_law,
+};

@@ -99,7 +99,7 @@ module _ (file : File) (limits : Limits) where
           λ i. option_map (λ (ws : List Value). settled (operation (code.Unpack count) ws at.line)) (both (has.1.0 i) (Some []))
 
   -- targets that are bound
-  targets-bound : (tuple : Bool) (names : List (List ℕ)) (at : Context) (a : Arg) (ids : ℕ) (given : Given)
+  pub targets-bound : (tuple : Bool) (names : List (List ℕ)) (at : Context) (a : Arg) (ids : ℕ) (given : Given)
       → IsStaged file limits at ids given → HasSome ids given a
       → Binds at.routine ids given (bind_targets (locals file at.routine) tuple names at a)
   targets-bound false [] at a ids given has v =

@@ -24,10 +24,10 @@ use Rattle.pyd_translate.specs.Matching.{HaveValues}
 use Rattle.pyd_translate.specs.Supplied.{BlockSupply}
 use Rattle.pyd_translate.proofs.Keeping.{all_given-below}
 use Rattle.pyd_translate.proofs.RestOrder.{block_order}
-use Rattle.pyd_translate.proofs.Supplying.{later-same, later-then, HasSome, some-later, have-later, some-true, have-true, done-stocked, pure-stocked}
+use Rattle.pyd_translate.proofs.Supplying.{later-same, later-then, HasSome, some-later, have-later, some-true, have-true, HasSlots, done-stocked, pure-stocked}
 use Rattle.pyd_translate.proofs.SuppliedExpressions.{staged-later}
 use Rattle.pyd_translate.proofs.SuppliedSides.{expression-supplied}
-use Rattle.pyd_translate.proofs.SuppliedStatements.{GoesOn, ported-stocked, composite-given, what-stocked}
+use Rattle.pyd_translate.proofs.SuppliedStatements.{Stocks, GoesOn, ported-stocked, composite-given, what-stocked}
 use Rattle.pyd_translate.proofs.LawsSupplied.{values-below, stocked-supplied}
 
 module _ (file : File) (limits : Limits) where
@@ -119,6 +119,15 @@ module _ (file : File) (limits : Limits) where
         (rest_unfolds file routine depth rest Normal) low before have.0 have.1
         (rest-goes rest low before have.1 Normal) ids given env later has
 
+-- statements that are made from slots that are given, and what goes on behind them
+pub block-stocked : (file : File) (limits : Limits) (routine depth : ℕ) (here : Passage) (rest : List Frame) (ids : ℕ)
+    (given : Given) (env : List Arg)
+    → HaveValues ids given (rest_arguments rest) → HasSlots file limits routine ids given env
+    → Stocks file limits ids given (block_unfolds file routine depth here rest env)
+block-stocked file limits routine depth here rest ids given env have has =
+    statements-stocked file limits routine depth here.stmts here.point rest (rest_unfolds file routine depth rest) ids given
+    have (rest-goes file limits routine depth rest ids given have) ids given env (later-same ids given) has
+
 -- the nodes of statements and of what goes on behind them have what they need
 pub block_supply : BlockSupply
 block_supply file limits routine depth here rest ids given env names have are =
@@ -128,6 +137,4 @@ block_supply file limits routine depth here rest ids given env names have are =
     let ends = order.next in
     stocked-supplied file limits (block_unfolds file routine depth here rest env ids).next ids
     (block_unfolds file routine depth here rest env ids).nodes given order.nodes (omega (arith, ends))
-    (statements-stocked file limits routine depth here.stmts here.point rest (rest_unfolds file routine depth rest) ids given
-    have (rest-goes file limits routine depth rest ids given have) ids given env (later-same ids given)
-    (are.count, are.all_given))
+    (block-stocked file limits routine depth here rest ids given env have (are.count, are.all_given))
