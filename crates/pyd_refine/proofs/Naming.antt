@@ -10,7 +10,7 @@ use Rattle.pyd_translate.specs.Making as making
 use Rattle.pyd_translate.specs.Naming.{Numbers, AreAmong, Naming, AreNamed}
 use Rattle.pyd_translate.specs.Statements.{Done}
 use Rattle.pyd_translate.specs.Starts.{done_or_stopped, statements_piece}
-use Rattle.pyd_translate.proofs.Ordering.{IfThere, InOrder, IsLowDone}
+use Rattle.pyd_translate.proofs.Ordering.{in_among, are_among, IfThere, InOrder, IsLowDone}
 use Rattle.pyd_refine.specs.Redirecting.{images}
 use Rattle.pyd_refine.specs.Ordering.{and_one, and_nodes, IsOrdered, LieBelow}
 use Rattle.pyd_refine.specs.Laws.{AreFrom, IsNew}
@@ -58,6 +58,7 @@ module _ (known : Numbers) (ids : ℕ) where
   piece_naming = record {
     base = ids;
     may = may_name;
+    slots = λ k. true;
     up = λ m n k le p.
         let both = each-true (nat_lt k m) (known k || nat_le ids k) p in
         both-true (nat_lt k n) (known k || nat_le ids k)
@@ -106,7 +107,8 @@ module _ (known : Numbers) (ids : ℕ) where
           (
             omega (arith, own, few),
             fresh n.id (omega (arith, own)),
-            all-more (may_name start) now into (arguments n.work) named.1,
+            all-more (may_name start) now into (arguments n.work)
+                (are_among piece_naming start (arguments n.work) named.1),
             more.0,
           ),
           (omega (arith, own, le), more.1),
@@ -139,7 +141,8 @@ module _ (known : Numbers) (ids : ℕ) where
         → AreAmong then (images (done_or_stopped env got).env (done_or_stopped env got).value)
     ports-known env next (Some d) then low is into still =
         all-more (may_name next) then into (images d.env d.value)
-        (among-append (may_name next) d.env (d.value ∷ []) low.0 (low.1, tt))
+        (among-append (may_name next) d.env (d.value ∷ []) (are_among piece_naming next d.env low.0)
+        (in_among piece_naming next d.value low.1, tt))
     ports-known env next None then low is into still =
         among-append then env (Unbound ∷ []) (all-more known then still env is) (tt, tt)
 

@@ -1,5 +1,5 @@
 -- The piece of each composite is new.
-use Rattle.std.proofs.Common.{ℕ, zero, suc, ◌-◌, nat_eq, List, [], ◌∷◌, ◌++◌, length, map, Bool, true, false, if◌then◌else◌, Option, Some, None, arith}
+use Rattle.std.proofs.Common.{ℕ, zero, suc, ◌-◌, nat_eq, List, [], ◌∷◌, ◌++◌, length, map, Bool, true, false, if◌then◌else◌, Option, Some, None, refl, arith}
 use Rattle.std.specs.List.{slice_get}
 use Rattle.pyd_value.specs.declared.value.Value.{Value}
 use Rattle.pyd_value.specs.declared.value.Value.TheVariants as value
@@ -36,13 +36,13 @@ use Rattle.pyd_translate.specs.Slots.{set_slot, unbound_slots}
 use Rattle.pyd_translate.specs.Sides.{side_unfolds}
 use Rattle.pyd_translate.specs.Starts.{passage}
 use Rattle.pyd_translate.specs.Statements.{Done, context, header, ported, bind_targets}
-use Rattle.pyd_translate.proofs.Ordering.{IsIn, AreIn, in_up, are_in_up, are_below_both, Orders, IsLowDone, then_orders, done_orders, stop_orders, if_orders}
+use Rattle.pyd_translate.proofs.Ordering.{IsIn, AreIn, in_up, are_in_up, are_below_both, are_left, are_right, among_are, any_marked, Orders, IsLowDone, then_orders, done_orders, stop_orders, if_orders}
 use Rattle.pyd_translate.proofs.UnfoldedOrder.{expression_orders, side_orders}
 use Rattle.pyd_translate.proofs.StatementOrder.{set_below, targets_order, finished_orders, ported_orders}
-use Rattle.pyd_translate.proofs.RestOrder.{block_names}
+use Rattle.pyd_translate.proofs.RestOrder.{any_ports, block_names}
 use Rattle.pyd_refine.specs.Composites.{arms_of, arm_point, with_parameters, only_value, if_control, started, arm_tested, arm_refined, turn_refined, while_refined, item_turn, item_refined, items_refined, loop_refined, side_refined, body_refined, function_refined, context_of, slots_of, work_refined, refined}
 use Rattle.pyd_refine.specs.Laws.{PieceOrder}
-use Rattle.pyd_refine.proofs.Ordering.{among-left, among-right, all-more}
+use Rattle.pyd_refine.proofs.Ordering.{among-right, all-more}
 use Rattle.pyd_refine.proofs.Naming.{piece_naming, known-in, may_name, new-piece}
 
 module _ (naming : Naming) (file : File) where
@@ -67,9 +67,9 @@ module _ (naming : Naming) (file : File) where
   started-orders : (routine depth : ℕ) (s : Start) (rest : List Frame) (n : ℕ) (env : List Arg)
       → AreIn naming n (rest_arguments rest) → AreIn naming n env
       → Orders naming (IsLowDone naming) n (started file routine depth s rest env)
-  started-orders routine depth s rest n env below low ids from le =
+  started-orders routine depth s rest n env below low ids from le marks =
       block_names naming file routine depth (passage file routine s) rest ids env from
-      (are_in_up naming n ids (rest_arguments rest) le below) (are_in_up naming n ids env le low)
+      (are_in_up naming n ids (rest_arguments rest) le below) (are_in_up naming n ids env le low) marks
 
   module _ (routine depth k : ℕ) (rest : List Frame) (n : ℕ) (env : List Arg)
       (below : AreIn naming n (rest_arguments rest)) (low : AreIn naming n env) where
@@ -86,7 +86,7 @@ module _ (naming : Naming) (file : File) where
           r,
           are_below_both naming next (rest_arguments rest) env
               (are_in_up naming n next (rest_arguments rest) more below) (are_in_up naming n next env more low),
-        ))
+        ) refl)
 
     -- a Cond
     cond-orders : (arms : List Arm) (p : Point) (arm : ℕ) (o : Option Arm) (b : Bool)
@@ -196,7 +196,7 @@ module _ (naming : Naming) (file : File) where
   control-orders n (Some v) at next p = p v
 
   -- each composite
-  work-orders : (limits : Limits) (w : Work) (node : Node) (chosen : Option Value) (n : ℕ)
+  pub work-orders : (limits : Limits) (w : Work) (node : Node) (chosen : Option Value) (n : ℕ)
       → AreIn naming n (arguments w) → Orders naming (IsLowDone naming) n (work_refined file limits w node chosen)
   work-orders limits (Op op args) node chosen n p = value-orders n Unbound tt
   work-orders limits (Read arg kind) node chosen n p = value-orders n Unbound tt
@@ -205,26 +205,26 @@ module _ (naming : Naming) (file : File) where
   work-orders limits (Print args) node chosen n p = value-orders n Unbound tt
   work-orders limits (Run func args) node chosen n p = value-orders n Unbound tt
   work-orders limits (Cond test k arm rest env) node chosen n p =
-      let below = among-left (naming.may n) (rest_arguments rest) env p.1 in
-      let low = among-right (naming.may n) (rest_arguments rest) env p.1 in
+      let below = are_left naming n (rest_arguments rest) env p.1 in
+      let low = are_right naming n (rest_arguments rest) env p.1 in
       control-orders n chosen (context_of node env) _ (λ v.
       cond-orders node.routine node.depth k rest n env below low (arms_of (compound_at file node.routine k))
       (passage_at file node.routine k).point arm (slice_get (arms_of (compound_at file node.routine k)) arm) (is_true v))
   work-orders limits (While test k turns rest env) node chosen n p =
-      let below = among-left (naming.may n) (rest_arguments rest) env p.1 in
-      let low = among-right (naming.may n) (rest_arguments rest) env p.1 in
+      let below = are_left naming n (rest_arguments rest) env p.1 in
+      let low = are_right naming n (rest_arguments rest) env p.1 in
       control-orders n chosen (context_of node env) _ (λ v.
       loop-orders node.routine node.depth k rest n env below low limits (compound_at file node.routine k) (line_at file node.routine k) turns test v p.0)
   work-orders limits (For over k turns rest env) node chosen n p =
-      let below = among-left (naming.may n) (rest_arguments rest) env p.1 in
-      let low = among-right (naming.may n) (rest_arguments rest) env p.1 in
+      let below = are_left naming n (rest_arguments rest) env p.1 in
+      let low = are_right naming n (rest_arguments rest) env p.1 in
       control-orders n chosen (context_of node env) _ (λ v.
       loop-orders node.routine node.depth k rest n env below low limits (compound_at file node.routine k) (line_at file node.routine k) turns over v p.0)
   work-orders limits (Pick test first second env) node chosen n p =
-      let firsts = among-left (naming.may n) (side_arguments first) (side_arguments second ++ env) p.1 in
-      let others = among-right (naming.may n) (side_arguments first) (side_arguments second ++ env) p.1 in
-      let seconds = among-left (naming.may n) (side_arguments second) env others in
-      let low = among-right (naming.may n) (side_arguments second) env others in
+      let firsts = are_left naming n (side_arguments first) (side_arguments second ++ env) p.1 in
+      let others = are_right naming n (side_arguments first) (side_arguments second ++ env) p.1 in
+      let seconds = are_left naming n (side_arguments second) env others in
+      let low = are_right naming n (side_arguments second) env others in
       control-orders n chosen (context_of node env) _ (λ v.
       pick-orders n (context_of node env) (is_true v) first second low firsts seconds)
   work-orders limits (Enter func args) node chosen n p =
@@ -251,5 +251,8 @@ piece-new file limits node chosen ids known below is =
     new-piece known ids below (slots_of node.work) (refined file limits node chosen ids)
     (slots-known known node.work is)
     (work-orders naming file limits node.work node chosen ids
+    (among_are naming ids (arguments node.work)
     (all-more known (may_name known ids ids) (known-in known ids below) (arguments node.work) is)
-    ids (omega arith) (omega arith))
+    (any_ports (arguments node.work)))
+    ids (omega arith) (omega arith)
+    (any_marked naming (λ k. refl) (refined file limits node chosen ids).nodes))

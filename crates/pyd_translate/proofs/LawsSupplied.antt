@@ -13,6 +13,7 @@ use Rattle.pyd_translate.specs.Walk.{give, work_ports}
 use Rattle.pyd_translate.specs.Matching.{AreBelow, HaveValues, AreNumbered}
 use Rattle.pyd_translate.specs.Supplied.{AreSupplied, ExpressionSupply, SideSupply}
 use Rattle.pyd_translate.proofs.Keeping.{all_given-below, all_given-kept}
+use Rattle.pyd_translate.proofs.Ordering.{any_marked}
 use Rattle.pyd_translate.proofs.UnfoldedOrder.{expression_orders}
 use Rattle.pyd_translate.proofs.RestOrder.{before_each, are_before, named_numbered, side_order}
 use Rattle.pyd_translate.proofs.Supplying.{where-then, AreStocked}
@@ -43,7 +44,7 @@ expression_supply file limits routine depth line e k ids given env names are =
     let at = context routine depth line env in
     let order =
     expression_orders before_each file e k at ids (are_before ids env (all_given-below ids given env are.all_given))
-    ids (omega arith) (omega arith) in
+    ids (omega arith) (omega arith) (any_marked before_each (λ k. refl) (expression_unfolds file e k at ids).nodes) in
     let ends = order.next in
     stocked-supplied file limits (expression_unfolds file e k at ids).next ids (expression_unfolds file e k at ids).nodes given
     (named_numbered ids (expression_unfolds file e k at ids).nodes order.nodes) (omega (arith, ends))

@@ -15,6 +15,7 @@ pub mod ExpressionOrder
 pub mod UnfoldedOrder
 pub mod StatementOrder
 pub mod RestOrder
+pub mod SlotPorts
 pub mod FewNodes
 pub mod FewInNames
 pub mod FewInParts

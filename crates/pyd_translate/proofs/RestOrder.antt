@@ -1,5 +1,5 @@
 -- The nodes of statements, of what goes on behind them, and of sides name only what they may, and are numbered in order.
-use Rattle.std.proofs.Common.{◌≡◌, ◌≤◌, ◌<◌, ℕ, suc, nat_lt, true, List, [], ◌∷◌, Option, Some, None, arith}
+use Rattle.std.proofs.Common.{◌≡◌, ◌≤◌, ◌<◌, ℕ, suc, nat_lt, true, List, [], ◌∷◌, Option, Some, None, refl, arith}
 use Rattle.std.proofs.lemmas.Bool.Decides.{nat_tests}
 use Rattle.pyd_value.specs.declared.value.Value.TheVariants as value
 use Rattle.pyd_tree.specs.declared.statement.What.{out-What}
@@ -22,9 +22,10 @@ use Rattle.pyd_translate.specs.Sides.{side_unfolds}
 use Rattle.pyd_translate.specs.Statements.{Done, Exit, Normal, Break, Continue, Onward, ported, may_leave, context, stmts_unfold}
 use Rattle.pyd_translate.specs.Rests.{again, again_first, rest_unfolds, block_unfolds}
 use Rattle.pyd_translate.specs.Matching.{IsBelow, AreBelow, AreNumbered}
-use Rattle.pyd_translate.specs.Naming.{Naming, AreNamed}
+use Rattle.pyd_translate.specs.Naming.{Numbers, Naming, AreNamed}
+use Rattle.pyd_translate.specs.SlotPorts.{IsPortOf, ArePortsOf}
 use Rattle.pyd_translate.specs.Laws.{IsDoneBelow, IsValueBelow, BlockOrder, SideOrder}
-use Rattle.pyd_translate.proofs.Ordering.{IsIn, AreIn, in_up, are_in_up, are_below_both, IfThere, InOrder, Orders, IsLowDone, done_orders}
+use Rattle.pyd_translate.proofs.Ordering.{IsIn, AreIn, in_up, are_in_up, are_below_both, AreMarked, any_marked, IfThere, InOrder, Orders, IsLowDone, done_orders}
 use Rattle.pyd_translate.proofs.UnfoldedOrder.{expression_orders, side_orders}
 use Rattle.pyd_translate.proofs.StatementOrder.{GoesOn, finished_orders, ported_orders, what_order}
 
@@ -66,13 +67,13 @@ module _ (naming : Naming) where
           are_below_both naming end (rest_arguments rest) at.env
               (are_in_up naming least end (rest_arguments rest) (omega arith) below)
               (are_in_up naming n end at.env more env),
-        ))
+        ) refl)
     again_order (ForLoop targets e body) p turns over rest at next least n is below goes le env =
         ported_orders naming (locals file routine) at (For over p.statement turns rest at.env) n (
           in_up naming least n over le is,
           are_below_both naming n (rest_arguments rest) at.env
               (are_in_up naming least n (rest_arguments rest) le below) env,
-        )
+        ) refl
     again_order (Choice arms otherwise) p turns over rest at next least n is below goes le env =
         goes n at.env le env
     again_order Simple p turns over rest at next least n is below goes le env = goes n at.env le env
@@ -116,10 +117,11 @@ module _ (naming : Naming) where
     -- the nodes of statements and of what goes on behind them name only what they may
     pub block_names : (here : Passage) (rest : List Frame) (ids : ℕ) (env : List Arg)
         → naming.base ≤ ids → AreIn naming ids (rest_arguments rest) → AreIn naming ids env
+        → AreMarked naming (block_unfolds file routine depth here rest env ids).nodes
         → InOrder naming (IsLowDone naming) ids (block_unfolds file routine depth here rest env ids)
-    block_names here rest ids env from below low =
+    block_names here rest ids env from below low marks =
         statements_order here.stmts here.point rest (rest_unfolds file routine depth rest) ids below
-        (rest_order rest ids below) ids env (omega arith) low ids from (omega arith)
+        (rest_order rest ids below) ids env (omega arith) low ids from (omega arith) marks
 
 -- a number below another, by test
 pub is_less : (k n : ℕ) → k < n → nat_lt k n ≡ true
@@ -129,35 +131,58 @@ is_less k n lt = grind (arith, nat_tests)
 pub less_is : (k n : ℕ) → nat_lt k n ≡ true → k < n
 less_is k n e = grind (arith, nat_tests)
 
--- the nodes before each
-abbrev pub before_each : Naming
-before_each = record {
+-- the nodes before each, and the slot ports of these
+abbrev pub before_with : Numbers → Naming
+before_with slots = record {
   base = 0;
   may = λ n k. nat_lt k n;
+  slots = slots;
   up = λ m n k le p. is_less k n (let lt = less_is k m p in omega (arith, lt, le));
   made = λ n k from lt. is_less k n lt;
 }
 
--- an argument that names no node from a number on names one before it
-is_before : (n : ℕ) (a : Arg) → IsBelow n a → IsIn before_each n a
-is_before n (Known v) b = tt
-is_before n (From r) b = is_less r.node n b
-is_before n (Slot r) b = is_less r.node n b
-is_before n Unbound b = tt
+-- the nodes before each, and the slot ports of any
+abbrev pub before_each : Naming
+before_each = before_with (λ k. true)
+
+module _ (slots : Numbers) where
+  -- an argument that names no node from a number on names one before it
+  is_before : (n : ℕ) (a : Arg) → IsBelow n a → IsPortOf slots a → IsIn (before_with slots) n a
+  is_before n (Known v) b p = tt
+  is_before n (From r) b p = is_less r.node n b
+  is_before n (Slot r) b p = (is_less r.node n b, p)
+  is_before n Unbound b p = tt
+
+  -- the same of several
+  pub are_with : (n : ℕ) (args : List Arg) → AreBelow n args → ArePortsOf slots args
+      → AreIn (before_with slots) n args
+  are_with n [] b p = tt
+  are_with n (a ∷ args) b p = (is_before n a b.0 p.0, are_with n args b.1 p.1)
+
+-- a slot port is one of any node
+any_port : (a : Arg) → IsPortOf (λ k. true) a
+any_port (Known v) = tt
+any_port (From r) = tt
+any_port (Slot r) = refl
+any_port Unbound = tt
+
+-- so are all
+pub any_ports : (args : List Arg) → ArePortsOf (λ k. true) args
+any_ports [] = tt
+any_ports (a ∷ args) = (any_port a, any_ports args)
+
+-- arguments that name no node from a number on name those before it
+pub are_before : (n : ℕ) (args : List Arg) → AreBelow n args → AreIn before_each n args
+are_before n args b = are_with (λ k. true) n args b (any_ports args)
 
 -- the other way round
 is_below : (n : ℕ) (a : Arg) → IsIn before_each n a → IsBelow n a
 is_below n (Known v) b = tt
 is_below n (From r) b = less_is r.node n b
-is_below n (Slot r) b = less_is r.node n b
+is_below n (Slot r) b = less_is r.node n b.0
 is_below n Unbound b = tt
 
 -- the same of several
-pub are_before : (n : ℕ) (args : List Arg) → AreBelow n args → AreIn before_each n args
-are_before n [] b = tt
-are_before n (a ∷ args) b = (is_before n a b.0, are_before n args b.1)
-
--- and the other way round
 are_below : (n : ℕ) (args : List Arg) → AreIn before_each n args → AreBelow n args
 are_below n [] b = tt
 are_below n (a ∷ args) b = (is_below n a b.0, are_below n args b.1)
@@ -182,7 +207,8 @@ pub block_order : BlockOrder
 block_order file routine depth here rest ids env below low =
     let order =
     block_names before_each file routine depth here rest ids env (omega arith)
-    (are_before ids (rest_arguments rest) below) (are_before ids env low) in
+    (are_before ids (rest_arguments rest) below) (are_before ids env low)
+    (any_marked before_each (λ k. refl) (block_unfolds file routine depth here rest env ids).nodes) in
     record {
       nodes = named_numbered ids (block_unfolds file routine depth here rest env ids).nodes order.nodes;
       next = order.next;
@@ -196,7 +222,7 @@ side_order file routine depth line s ids env below low =
     let at = context routine depth line env in
     let order =
     side_orders before_each file s at ids (are_before ids env low) (are_before ids (side_arguments s) below)
-    ids (omega arith) (omega arith) in
+    ids (omega arith) (omega arith) (any_marked before_each (λ k. refl) (side_unfolds file s at ids).nodes) in
     record {
       nodes = named_numbered ids (side_unfolds file s at ids).nodes order.nodes;
       next = order.next;

@@ -1,5 +1,5 @@
 -- The nodes of one statement are numbered in order, where those of what goes on behind it are.
-use Rattle.std.proofs.Common.{◌≡◌, ◌≤◌, ℕ, suc, List, [], ◌∷◌, ◌++◌, length, Option, Some, None, Bool, true, false, if◌then◌else◌, arith}
+use Rattle.std.proofs.Common.{◌≡◌, ◌≤◌, ℕ, suc, List, [], ◌∷◌, ◌++◌, length, Option, Some, None, Bool, true, false, if◌then◌else◌, refl, arith}
 use Rattle.pyd_value.specs.declared.value.Value.{Bool as Truth}
 use Rattle.pyd_value.specs.declared.value.Value.TheVariants as value
 use Rattle.pyd_value.specs.declared.fault.Fault.TheVariants.{Raised}
@@ -29,7 +29,8 @@ use Rattle.pyd_translate.specs.Slots.{set_slot, slot_ports}
 use Rattle.pyd_translate.specs.Expressions.{name_operand, operator}
 use Rattle.pyd_translate.specs.Statements.{done, then_done, Exit, Break, Continue, Onward, Sequel, set_members, bind_targets, ported, with_rest, in_line, slots_at, header, assigned, augmented, message_unfolds, asserted, returned, headed_by, if_unfolds, what_unfolds}
 use Rattle.pyd_translate.specs.Naming.{Naming}
-use Rattle.pyd_translate.proofs.Ordering.{IsIn, AreIn, in_up, are_in_up, are_below_both, Orders, IsLowDone, IsMade, then_orders, done_orders, pure_orders, pure_below, pure_are_below, emit_orders, stop_orders}
+use Rattle.pyd_translate.specs.SlotPorts.{has_slots}
+use Rattle.pyd_translate.proofs.Ordering.{IsIn, AreIn, in_up, are_in_up, are_below_both, Orders, IsLowDone, IsMade, IsOpened, then_orders, done_orders, pure_orders, pure_below, pure_are_below, emit_orders, opened_orders, stop_orders}
 use Rattle.pyd_translate.proofs.ExpressionOrder.{operator_orders, choose_orders}
 use Rattle.pyd_translate.proofs.UnfoldedOrder.{name_orders, expression_orders}
 
@@ -61,7 +62,8 @@ module _ (naming : Naming) where
       (p.0, set_below n slots env name b p.1 q)
 
   -- the slot ports of a node
-  pub ports_below : {A : Type 0} (n id p : ℕ) (slots : List A) → naming.may n id ≡ true → AreIn naming n (slot_ports id p slots)
+  pub ports_below : {A : Type 0} (n id p : ℕ) (slots : List A) → IsOpened naming n id
+      → AreIn naming n (slot_ports id p slots)
   ports_below n id p [] made = tt
   ports_below n id p (slot ∷ slots) made = (made, ports_below n id (suc p) slots made)
 
@@ -100,28 +102,31 @@ module _ (naming : Naming) where
 
   -- a composite that has taken the rest with it
   pub ported_orders : (slots : List (List ℕ)) (at : Context) (work : Work) (least : ℕ)
-      → AreIn naming least (arguments work) → Orders naming (IsLowDone naming) least (emit at work >>> ported slots)
-  ported_orders slots at work least below =
-      then_orders naming (IsMade naming) (IsLowDone naming) least (emit at work) (ported slots)
-      (emit_orders naming least at work below)
+      → AreIn naming least (arguments work) → has_slots work ≡ true
+      → Orders naming (IsLowDone naming) least (emit at work >>> ported slots)
+  ported_orders slots at work least below has =
+      then_orders naming (IsOpened naming) (IsLowDone naming) least (emit at work) (ported slots)
+      (opened_orders naming least at work below has)
       (λ id next le made. finished_orders next (slot_ports id 0 slots)
-      (From (port id (length slots))) (ports_below next id 0 slots made) made)
+      (From (port id (length slots))) (ports_below next id 0 slots made) made.0)
 
-  -- the works of a composite name what is below a number, where their rests do
+  -- the works of a composite name what is below a number, where their rests do, and have slot ports
   abbrev IsLowWork : ℕ → (List Frame → Work) → Type 0
   IsLowWork n work =
-      (rest : List Frame) → AreIn naming n (rest_arguments rest) → AreIn naming n (arguments (work rest))
+      (rest : List Frame) → AreIn naming n (rest_arguments rest)
+      → AreIn naming n (arguments (work rest)) × (has_slots (work rest) ≡ true)
 
   -- a composite made from its rest
   rest_orders : (slots : List (List ℕ)) (early : Bool) (k : ℕ) (work : List Frame → Work)
       (at : Context) (sequel : Sequel) (least n : ℕ) → IsSequel least sequel → least ≤ n
       → IsLowWork n work → Orders naming (IsLowDone naming) n (with_rest slots early k work at sequel)
   rest_orders slots true k work at sequel least n is le low =
-      ported_orders slots at (work (After k ∷ sequel.rest)) n
-      (low (After k ∷ sequel.rest) (are_in_up naming least n (rest_arguments sequel.rest) le is.rest))
+      let has =
+      low (After k ∷ sequel.rest) (are_in_up naming least n (rest_arguments sequel.rest) le is.rest) in
+      ported_orders slots at (work (After k ∷ sequel.rest)) n has.0 has.1
   rest_orders slots false k work at sequel least n is le low =
-      then_orders naming (IsMade naming) (IsLowDone naming) n (emit at (work [])) (λ id. sequel.next (slot_ports id 0 slots))
-      (emit_orders naming n at (work []) (low [] tt))
+      then_orders naming (IsOpened naming) (IsLowDone naming) n (emit at (work [])) (λ id. sequel.next (slot_ports id 0 slots))
+      (opened_orders naming n at (work []) (low [] tt).0 (low [] tt).1)
       (λ id next more made. is.next next (slot_ports id 0 slots) (omega arith)
       (ports_below next id 0 slots made))
 
@@ -227,12 +232,14 @@ module _ (naming : Naming) where
     if_order [] early p at sequel least n is le env =
         rest_orders (slots_at file at) early p.statement
         (λ rest. Cond (Known (Truth false)) p.statement 0 rest at.env) at sequel least n is le
-        (λ rest low. composite_below n (Known (Truth false)) rest at.env tt low env)
+        (λ rest low. (composite_below n (Known (Truth false)) rest at.env tt low env, refl))
     if_order (a ∷ arms) early p at sequel least n is le env =
         headed_orders (out-Arm a).test (λ t rest. Cond t p.statement 0 rest at.env) early p
         (in_line (out-Arm a).line at) sequel least n is le env
-        (λ t next more r rest low. composite_below next t rest at.env r low
-        (are_in_up naming n next at.env more env))
+        (λ t next more r rest low. (
+          composite_below next t rest at.env r low (are_in_up naming n next at.env more env),
+          refl,
+        ))
 
     -- a statement
     pub what_order : (y : What-F What Arm Block Stmt) (early : Bool) (p : Point) (at : Context)
@@ -253,13 +260,17 @@ module _ (naming : Naming) where
     what_order (What-F.While test body) early p at sequel least n is le env =
         headed_orders test (λ t rest. While t p.statement 0 rest at.env) early p at sequel least n is
         le env
-        (λ t next more r rest low. composite_below next t rest at.env r low
-        (are_in_up naming n next at.env more env))
+        (λ t next more r rest low. (
+          composite_below next t rest at.env r low (are_in_up naming n next at.env more env),
+          refl,
+        ))
     what_order (What-F.For targets e body) early p at sequel least n is le env =
         headed_orders e (λ over rest. For over p.statement 0 rest at.env) early p at sequel least n is
         le env
-        (λ over next more r rest low. composite_below next over rest at.env r low
-        (are_in_up naming n next at.env more env))
+        (λ over next more r rest low. (
+          composite_below next over rest at.env r low (are_in_up naming n next at.env more env),
+          refl,
+        ))
     what_order (What-F.Return e) early p at sequel least n is le env = returned_orders e p at n env
     what_order What-F.Break early p at sequel least n is le env = is.leave Break n at.env le env
     what_order What-F.Continue early p at sequel least n is le env =

@@ -9,6 +9,7 @@ pub mod Starts
 pub mod Walk
 pub mod Matching
 pub mod Naming
+pub mod SlotPorts
 pub mod Laws
 pub mod Supplied
 pub mod Readings

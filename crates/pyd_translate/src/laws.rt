@@ -4,6 +4,7 @@ ghost use Rattle.pyd_translate.specs.Laws.{BlockLaw, BlockOrder, ExpressionLaw, 
 ghost use Rattle.pyd_translate.specs.Nested.{BlockNested, RoutineCount, SideNested, StartWithin};
 ghost use Rattle.pyd_translate.specs.Purity.{FunctionalCallLaw, FunctionalLeafLaw};
 ghost use Rattle.pyd_translate.specs.Readings.{ConditionalOrder, StopLaw};
+ghost use Rattle.pyd_translate.specs.SlotPorts.{BlockPorts, LeafPorts, ScriptPorts, SidePorts};
 ghost use Rattle.pyd_translate.specs.Supplied.{BlockSupply, ExpressionSupply, SideSupply};
 
 /// Of a conditional expression the first side is numbered before the test.
@@ -31,6 +32,27 @@ pub fn block_order_law()
 /// The nodes of a side of a choice are numbered in the same way.
 pub fn side_order_law()
     ensures { SideOrder }
+{}
+
+/// Each slot port that a node of statements names, or of what goes on behind them, is one that the slots or
+/// the rest name, or one of an `if` or a loop that stands before the node. So is each that they end with.
+pub fn block_ports_law()
+    ensures { BlockPorts }
+{}
+
+/// The same of the nodes of a side of a choice, and of what the slots or the side name.
+pub fn side_ports_law()
+    ensures { SidePorts }
+{}
+
+/// Each slot port that a node of a script names is one of an `if` or a loop that stands before the node.
+pub fn script_ports_law()
+    ensures { ScriptPorts }
+{}
+
+/// Where the first node of a list is a leaf, no later node names a slot port of it.
+pub fn leaf_ports_law()
+    ensures { LeafPorts }
 {}
 
 /// Statements, and what goes on behind them, have at most 3 nodes for each statement, arm, expression
