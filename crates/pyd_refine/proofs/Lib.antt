@@ -21,3 +21,4 @@ pub mod Needs
 pub mod Stocking
 pub mod Later
 pub mod Supply
+pub mod SlotPorts

@@ -5,3 +5,4 @@ pub mod Readiness
 pub mod Laws
 pub mod Rules
 pub mod Supply
+pub mod SlotPorts

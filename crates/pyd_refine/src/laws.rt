@@ -1,6 +1,7 @@
 //! The laws of refining: contracts of functions with empty bodies.
 ghost use Rattle.pyd_refine.specs.Laws.{FoundLaw, PieceLaw, PieceOrder, RefineLaw, SubstitutionLaw};
 ghost use Rattle.pyd_refine.specs.Rules.{RuleLaws};
+ghost use Rattle.pyd_refine.specs.SlotPorts.{PiecePorts, RefinedPorts};
 ghost use Rattle.pyd_refine.specs.Supply.{ReadyLaw, SupplyLaw};
 
 /// What the piece of each composite is, in each way in which it goes on.
@@ -48,4 +49,16 @@ pub fn ready_law()
 /// of the list then has what it needs.
 pub fn supply_law()
     ensures { SupplyLaw }
+{}
+
+/// Each slot port that the piece of a composite names is one that the composite names, or one of an `if` or a
+/// loop before the node in the piece.
+pub fn piece_ports_law()
+    ensures { PiecePorts }
+{}
+
+/// In a list in order whose nodes name slot ports only of an `if` or a loop before them, the piece of a
+/// composite may take its place: the nodes of the list then do so again.
+pub fn refined_ports_law()
+    ensures { RefinedPorts }
 {}
