@@ -102,10 +102,12 @@ drop_keeps p s seat k attempt machine sound =
         ticket_ready = h.ticket_ready;
         ticket_alone = λ n t e. (let r = h.ticket_alone n t e in
             (r.0, claim_none d.claim k machine n r.1));
+        ticket_names = h.ticket_names;
         claimed = λ n c e. h.claimed n c (claim_was d.claim k machine n c e);
         claim_heads = λ n c e. h.claim_heads n c (claim_was d.claim k machine n c e);
         claim_alone = λ n c e. h.claim_alone n c (claim_was d.claim k machine n c e);
         claim_lives = λ n c e. h.claim_lives n c (claim_was d.claim k machine n c e);
+        claim_seat = λ n c e. h.claim_seat n c (claim_was d.claim k machine n c e);
         undone_attempt = λ n b c e.
             h.undone_attempt n b c (undone_was d.undone k attempt n b c e);
         undone_lost = λ n b c e.

@@ -1,21 +1,26 @@
 -- A claim that is finished keeps what holds.
 use Rattle.std.proofs.Common.{◌≡◌, ◌≢◌, ℕ, Bool, true, false, not, ◌&&◌, ◌||◌, if◌then◌else◌, List, [], ◌∷◌, ◌++◌, Option, None, Some, is_some, ◌⊎◌, inl, inr, refl, ap, sym, ◌∙◌, subst}
 use Rattle.std.specs.Prelude.{IsTrue, option_map}
+use Rattle.std.specs.List.{Contains}
 use Rattle.pyd_meaning.specs.declared.ran.Ran.{Ran}
+use Rattle.pyd_ir.specs.declared.job.Job.{Job}
 use Rattle.pyd_ir.specs.declared.node.Node.{Node}
+use Rattle.pyd_ir.specs.Arguments.{is_pure}
 use Rattle.pyd_ir.specs.Meaning.{job_ran}
 use Rattle.pyd_refine.specs.Ordering.{IsOrdered, LieBelow}
 use Rattle.pyd_runs.specs.Plans.{Plan, limits_of}
-use Rattle.pyd_runs.specs.Graphs.{Graph}
+use Rattle.pyd_runs.specs.Graphs.{Graph, nodes}
 use Rattle.pyd_runs.specs.Desks.{Kept, Held, Stores, Desk, put_at}
 use Rattle.pyd_runs.specs.Records.{or_else, stored, records, heads}
 use Rattle.pyd_runs.specs.Reach.{Reached, by_chain, by_past}
 use Rattle.pyd_runs.specs.Effects.{State, acted, finished_by, is_run, kept_by_driver, kept_by_machine}
 use Rattle.pyd_runs.specs.Enabled.{Lives}
-use Rattle.pyd_runs.specs.Sound.{IsSound, IsGraphSound, AreCounted, IsSeen, IsGone, IsFresh, HasGiven, stands, is_over}
+use Rattle.pyd_runs.specs.Sound.{IsSound, IsGraphSound, AreCounted, IsSeen, IsJob, IsGone, IsFresh, HasGiven, sight, stands, is_over}
 use Rattle.pyd_runs.specs.Laws.{FinishLaw}
 use Rattle.pyd_runs.proofs.Putting.{at_cases, put_cases, put_none, put_else, none_apart, test_same}
 use Rattle.pyd_runs.proofs.Readiness.{IsBelow, ready_within}
+use Rattle.pyd_runs.proofs.Standing.{same_node}
+use Rattle.pyd_runs.proofs.Within.{job_seen, run_impure}
 
 -- a record in a store where there was none takes none away
 store_grows : (g : Graph) (stores : Stores) (k : ℕ) (o : Option Kept) → records g stores k ≡ None
@@ -102,7 +107,21 @@ seen_same p g k ran n r h = record {
   number = h.number;
   does = h.does;
   meaning = h.meaning;
+  has_job = h.has_job;
   as_done = h.as_done;
+}
+
+-- a job that was its node's is it
+job_same : (p : Plan) (g : Graph) (k : ℕ) (ran : Ran) (n : ℕ) (job : Job) → IsJob p g n job
+    → IsJob p (driven_by g k ran) n job
+job_same p g k ran n job h = record {
+  node = h.node;
+  stands = h.stands;
+  number = h.number;
+  inputs = h.inputs;
+  task = h.task;
+  line = h.line;
+  depth = h.depth;
 }
 
 -- or it is gone
@@ -114,8 +133,9 @@ known_same p g k ran n r (inr gone) = inr gone
 
 -- the graph, where the driver has the record of the chain's head
 graph_driven : (p : Plan) (g : Graph) (k : ℕ) (ran : Ran) → IsTrue (heads k g.chain)
+    → ((n : Node) → Contains (nodes g) n → n.id ≡ k → is_pure n.work ≡ false)
     → IsGraphSound p g → IsGraphSound p (driven_by g k ran)
-graph_driven p g k ran head h =
+graph_driven p g k ran head effect h =
     let over : is_over (driven_by g k ran) ≡ is_over g = (λ i n. over_same g k ran head n i) in
     record {
       goes_on = h.goes_on;
@@ -140,6 +160,10 @@ graph_driven p g k ran head h =
           no_other = was.no_other;
         })
       ];
+      effects = λ n at pure. elim (at_cases n.id k) [
+        | inl same ↦ absurd (let f = effect n at same in cc (pure, f))
+        | inr other ↦ put_else g.driver k (Some ran) n.id other ∙ h.effects n at pure
+      ];
       blank = h.blank;
     }
 
@@ -154,6 +178,23 @@ counted d k stores t = record {
   before_claim = λ n b c now e q. t.before_claim n b c now e (put_none d.claim k n now q).1;
 }
 
+-- what a claim's job does is seen, or its node is gone
+seen_by_job : (p : Plan) (g : Graph) (k : ℕ) (job : Job) → IsJob p g k job ⊎ IsGone g k
+    → IsSeen p g k (job_ran p.file (limits_of p) job) ⊎ IsGone g k
+seen_by_job p g k job (inl j) = inl (job_seen p g k job j)
+seen_by_job p g k job (inr gone) = inr gone
+
+-- the node of a call that isn't pure isn't pure
+run_effect : (p : Plan) (g : Graph) (k : ℕ) (job : Job) → IsGraphSound p g
+    → IsTrue (heads k g.chain) → IsTrue (is_run job.task) → IsJob p g k job ⊎ IsGone g k
+    → (n : Node) → Contains (nodes g) n → n.id ≡ k → is_pure n.work ≡ false
+run_effect p g k job sound head run (inr gone) n at number =
+    absurd (heads_apart k g.chain head (fresh_behind k g.past g.chain gone.1))
+run_effect p g k job sound head run (inl j) n at number =
+    ap (λ (x : Node). is_pure x.work)
+    (same_node p g n j.node sound at j.stands (number ∙ sym j.number))
+    ∙ run_impure (sight p g) j.node.work job.task j.task run
+
 -- what was done goes to the driver
 driver_keeps : (p : Plan) (s : State) (k : ℕ) (c : Held) → IsSound p s → s.desk.claim k ≡ Some c
     → IsTrue (is_run c.job.task)
@@ -165,8 +206,9 @@ driver_keeps p s k c sound claim run =
     let ran : Ran = job_ran p.file (limits_of p) c.job in
     let head : IsTrue (heads k g.chain) = h.claim_heads k c claim run in
     let free : records g d.stores k ≡ None = h.claim_alone k c claim in
+    let effect = run_effect p g k c.job sound.graph head run (h.claimed k c claim) in
     record {
-      graph = graph_driven p g k ran head sound.graph;
+      graph = graph_driven p g k ran head effect sound.graph;
       attempts = counted d k d.stores sound.attempts;
       scripted = sound.scripted;
       survivor = sound.survivor;
@@ -175,9 +217,9 @@ driver_keeps p s k c sound claim run =
         store_lives = h.store_lives;
         run_done = λ n r x e at number. elim (put_cases g.driver k (Some ran) n (Some r) e) [
           | inl here ↦ elim (h.claimed k c claim) [
-            | inl s' ↦
+            | inl job ↦
                 let one : ran ≡ r = (let z = here.1 in cc (z)) in
-                rw (here.0, ← one) (seen_same p g k ran k ran s')
+                rw (here.0, ← one) (seen_same p g k ran k ran (job_seen p g k c.job job))
             | inr gone ↦ absurd (heads_apart k g.chain head
                 (fresh_behind k g.past g.chain gone.1))
           ]
@@ -192,13 +234,19 @@ driver_keeps p s k c sound claim run =
                   ∙ r.0,
               put_else d.claim k None n other ∙ r.1,
             ));
-        claimed = λ n q e. known_same p g k ran n (job_ran p.file (limits_of p) q.job)
-            (h.claimed n q (put_none d.claim k n q e).1);
+        ticket_names = λ n t e x at number m names.
+            ap (λ b. b || stands m g.chain) (over_same g k ran head m)
+            ∙ h.ticket_names n t e x at number m names;
+        claimed = λ n q e. elim (h.claimed n q (put_none d.claim k n q e).1) [
+          | inl job ↦ inl (job_same p g k ran n q.job job)
+          | inr gone ↦ inr gone
+        ];
         claim_heads = λ n q e. h.claim_heads n q (put_none d.claim k n q e).1;
         claim_alone = λ n q e. (let was = put_none d.claim k n q e in
             ap (λ o. or_else o (stored d.stores n)) (put_else g.driver k (Some ran) n was.0)
             ∙ h.claim_alone n q was.1);
         claim_lives = λ n q e. h.claim_lives n q (put_none d.claim k n q e).1;
+        claim_seat = λ n q e. h.claim_seat n q (put_none d.claim k n q e).1;
         undone_attempt = h.undone_attempt;
         undone_lost = h.undone_lost;
       };
@@ -227,7 +275,7 @@ machine_keeps p s k machine c sound claim lives =
         stored = λ n kept e. elim (put_cases d.stores k (Some new) n (Some kept) e) [
           | inl here ↦
               let one : new ≡ kept = (let z = here.1 in cc (z)) in
-              rw (here.0, ← one) (h.claimed k c claim)
+              rw (here.0, ← one) (seen_by_job p g k c.job (h.claimed k c claim))
           | inr old ↦ h.stored n kept old.1
         ];
         store_lives = λ n kept e. elim (put_cases d.stores k (Some new) n (Some kept) e) [
@@ -242,11 +290,13 @@ machine_keeps p s k machine c sound claim lives =
             let other : n ≢ k = (λ same. none_apart (d.claim k) c
             (ap d.claim (sym same) ∙ r.1) claim) in
             (else_same n other ∙ r.0, put_else d.claim k None n other ∙ r.1));
+        ticket_names = h.ticket_names;
         claimed = λ n q e. h.claimed n q (put_none d.claim k n q e).1;
         claim_heads = λ n q e. h.claim_heads n q (put_none d.claim k n q e).1;
         claim_alone = λ n q e. (let was = put_none d.claim k n q e in
             else_same n was.0 ∙ h.claim_alone n q was.1);
         claim_lives = λ n q e. h.claim_lives n q (put_none d.claim k n q e).1;
+        claim_seat = λ n q e. h.claim_seat n q (put_none d.claim k n q e).1;
         undone_attempt = h.undone_attempt;
         undone_lost = h.undone_lost;
       };

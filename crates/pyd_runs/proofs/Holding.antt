@@ -15,7 +15,7 @@ use Rattle.pyd_runs.proofs.Putting.{at_cases, put_else, put_same, same_test, oth
 use Rattle.pyd_runs.proofs.Dropping.{claims_but, undone_but}
 
 -- a claim that isn't a machine's is left
-elsewhere_kept : (machine : ℕ) (o : Option Held) (c : Held) → o ≡ Some c → c.machine ≢ machine
+pub elsewhere_kept : (machine : ℕ) (o : Option Held) (c : Held) → o ≡ Some c → c.machine ≢ machine
     → held_elsewhere machine o ≡ Some c
 elsewhere_kept machine None c e other = absurd (cc (e))
 elsewhere_kept machine (Some q) c e other =
@@ -42,7 +42,7 @@ undone_kept undone k attempt n b c e other =
     ]
 
 -- the seat, attempt and machine of a claim
-holds_some : (o : Option Held) (seat attempt machine : ℕ) → Holds o seat attempt machine
+pub holds_some : (o : Option Held) (seat attempt machine : ℕ) → Holds o seat attempt machine
     → (c : Held) × (o ≡ Some c) × (c.seat ≡ seat) × (c.attempt ≡ attempt)
     × (c.machine ≡ machine)
 holds_some None seat attempt machine h = absurd h
@@ -83,7 +83,7 @@ undone_old machine attempt (Some q) old c e h =
     ∙ either_way (q.machine == machine) old ∙ e
 
 -- what a Finish leaves of the claims of other nodes
-finish_else : (p : Plan) (s : State) (k machine n : ℕ) (o : Option Held) → n ≢ k
+pub finish_else : (p : Plan) (s : State) (k machine n : ℕ) (o : Option Held) → n ≢ k
     → (finished_by p s k machine o).desk.claim n ≡ s.desk.claim n
 finish_else p s k machine n None other = refl
 finish_else p s k machine n (Some c) other = by_kind (is_run c.job.task)

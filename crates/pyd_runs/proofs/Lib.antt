@@ -10,3 +10,7 @@ pub mod Places
 pub mod Losing
 pub mod Without
 pub mod Trimming
+pub mod Standing
+pub mod Within
+pub mod Knowing
+pub mod Claiming

@@ -205,6 +205,8 @@ desk_sound p g d lost machine h = record {
   ticket_alone = λ k t e.
       (let r = h.ticket_alone k t (live_some g (stores_without machine d.stores) d.ticket k t e).1 in
       (records_without g d.stores machine k r.0, elsewhere_none machine (d.claim k) r.1));
+  ticket_names = λ k t e.
+      h.ticket_names k t (live_some g (stores_without machine d.stores) d.ticket k t e).1;
   claimed = λ k c e. h.claimed k c (elsewhere_some machine (d.claim k) c e).0;
   claim_heads = λ k c e. h.claim_heads k c (elsewhere_some machine (d.claim k) c e).0;
   claim_alone = λ k c e. records_without g d.stores machine k
@@ -212,6 +214,7 @@ desk_sound p g d lost machine h = record {
   claim_lives = λ k c e.
       (let r = elsewhere_some machine (d.claim k) c e in
       lives_on p lost machine c.machine r.1 (h.claim_lives k c r.0));
+  claim_seat = λ k c e. h.claim_seat k c (elsewhere_some machine (d.claim k) c e).0;
   undone_attempt = λ k attempt c e.
       elim (undone_from machine attempt (d.claim k) (d.undone k attempt) c e) [
         | inl now ↦ now.2

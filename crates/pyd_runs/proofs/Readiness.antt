@@ -32,7 +32,7 @@ and_both true b e f = f
 and_both false b e f = absurd (cc (e))
 
 -- what is there stays there
-there : {A : Type 0} (less more : Option A) → IsBelow less more → IsTrue (is_some less)
+pub there : {A : Type 0} (less more : Option A) → IsBelow less more → IsTrue (is_some less)
     → IsTrue (is_some more)
 there None more h e = absurd (cc (e))
 there (Some a) more h e = ap is_some (h a refl)
@@ -140,7 +140,7 @@ under_both true o e f = f
 under_both false o e f = absurd (cc (e))
 
 -- whether a node has a task that can be done
-by_within : (less more : Given) → IsWithin less more → (chain : List Node) (n : Node)
+pub by_within : (less more : Given) → IsWithin less more → (chain : List Node) (n : Node)
     → IsTrue (is_some (task_by chain less n)) → IsTrue (is_some (task_by chain more n))
 by_within less more h chain n e =
     let turn = is_pure n.work || heads n.id chain in

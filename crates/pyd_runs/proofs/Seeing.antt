@@ -31,11 +31,11 @@ use Rattle.pyd_runs.specs.Laws.{SightLaw}
 use Rattle.pyd_runs.proofs.Putting.{put_same, put_else, same_test, test_other, none_apart}
 
 -- two that give the same of known nodes
-abbrev AgreeOn : Numbers → Given → Given → Type 0
+abbrev pub AgreeOn : Numbers → Given → Given → Type 0
 AgreeOn known f h = (k : ℕ) → known k ≡ true → f k ≡ h k
 
 -- the value of an argument
-value_same : (known : Numbers) (f h : Given) → AgreeOn known f h → (a : Arg) → IsAmong known a
+pub value_same : (known : Numbers) (f h : Given) → AgreeOn known f h → (a : Arg) → IsAmong known a
     → value_of f a ≡ value_of h a
 value_same known f h agree (Known v) among = refl
 value_same known f h agree (From at) among =
@@ -55,7 +55,7 @@ read_same known f h agree (Slot at) among =
 read_same known f h agree Unbound among = refl
 
 -- the values of arguments
-values_same : (known : Numbers) (f h : Given) → AgreeOn known f h → (args : List Arg)
+pub values_same : (known : Numbers) (f h : Given) → AgreeOn known f h → (args : List Arg)
     → AreAmong known args → values_of f args ≡ values_of h args
 values_same known f h agree [] among = refl
 values_same known f h agree (a ∷ args) among =
@@ -71,7 +71,7 @@ have_same known f h agree (a ∷ args) among =
     ∙ ap (λ b. is_some (value_of h a) && b) (have_same known f h agree args among.1)
 
 -- what a node waits for
-inputs_same : (known : Numbers) (f h : Given) → AgreeOn known f h → (w : Work)
+pub inputs_same : (known : Numbers) (f h : Given) → AgreeOn known f h → (w : Work)
     → AreAmong known (arguments w) → has_inputs f w ≡ has_inputs h w
 inputs_same known f h agree (Op op args) among = have_same known f h agree args among
 inputs_same known f h agree (Read arg kind) among = read_same known f h agree arg among.0
@@ -114,7 +114,7 @@ meaning_same known f h agree file limits line depth (Pick test first second env)
 meaning_same known f h agree file limits line depth (Enter func args) among = refl
 
 -- what is seen of a leaf
-leaf_same : (p : Plan) (known : Numbers) (f h : Given) → AgreeOn known f h → (n : Node)
+pub leaf_same : (p : Plan) (known : Numbers) (f h : Given) → AgreeOn known f h → (n : Node)
     → AreAmong known (arguments n.work) → leaf_seen p f n ≡ leaf_seen p h n
 leaf_same p known f h agree n among =
     ap (λ b. cond b (leaf_meaning p.file (limits_of p) f n) None)
@@ -123,16 +123,16 @@ leaf_same p known f h agree n among =
     (meaning_same known f h agree p.file (limits_of p) n.line n.depth n.work among)
 
 -- the second of two tests that is met, and both where neither is
-or_second : (a b : Bool) → b ≡ true → (a || b) ≡ true
+pub or_second : (a b : Bool) → b ≡ true → (a || b) ≡ true
 or_second true b e = refl
 or_second false b e = e
 
-or_neither : (a b : Bool) → (a || b) ≡ false → (a ≡ false) × (b ≡ false)
+pub or_neither : (a b : Bool) → (a || b) ≡ false → (a ≡ false) × (b ≡ false)
 or_neither true b e = absurd (cc (e))
 or_neither false b e = (refl, e)
 
 -- what is known is fresh in an ordered list
-known_fresh : (known : Numbers) (next : ℕ) (ns : List Node) (k : ℕ) → IsOrdered known next ns
+pub known_fresh : (known : Numbers) (next : ℕ) (ns : List Node) (k : ℕ) → IsOrdered known next ns
     → known k ≡ true → IsFresh k ns
 known_fresh known next [] k ordered is = tt
 known_fresh known next (n ∷ ns) k ordered is = (
@@ -144,7 +144,7 @@ known_fresh known next (n ∷ ns) k ordered is = (
     none_true b t f = absurd (cc (t, f))
 
 -- what no node of a list has as its number is fresh
-unseen_fresh : (k : ℕ) (ns : List Node) → stands k ns ≡ false → IsFresh k ns
+pub unseen_fresh : (k : ℕ) (ns : List Node) → stands k ns ≡ false → IsFresh k ns
 unseen_fresh k [] e = tt
 unseen_fresh k (n ∷ ns) e =
     let parts = or_neither (n.id == k) (stands k ns) e in

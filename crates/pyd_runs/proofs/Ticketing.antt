@@ -1,10 +1,18 @@
 -- A ticket that is placed keeps what holds.
-use Rattle.std.proofs.Common.{◌≡◌, ◌≤◌, ℕ, suc, Option, None, Some, inl, inr, ap, sym, ◌∙◌, arith}
-use Rattle.pyd_runs.specs.Desks.{Placed, Desk, put_at}
+use Rattle.std.proofs.Common.{◌≡◌, ◌≤◌, ℕ, suc, Option, None, Some, ◌⊎◌, inl, inr, refl, ap, sym, ◌∙◌, subst, arith}
+use Rattle.std.specs.List.{Contains}
+use Rattle.std.proofs.lemmas.List.Elements.{Contains-append_cases}
+use Rattle.pyd_ir.specs.declared.node.Node.{Node}
+use Rattle.pyd_runs.specs.Plans.{Plan}
+use Rattle.pyd_runs.specs.Graphs.{Graph}
+use Rattle.pyd_runs.specs.Desks.{Placed, Stores, Desk, put_at}
+use Rattle.pyd_runs.specs.Reach.{Reached, by_chain, by_past, Needed, in_chain, by_needed}
 use Rattle.pyd_runs.specs.Effects.{acted}
-use Rattle.pyd_runs.specs.Sound.{AreCounted}
+use Rattle.pyd_runs.specs.Sound.{IsGraphSound, AreCounted, NamesPresent}
 use Rattle.pyd_runs.specs.Laws.{PlaceLaw}
 use Rattle.pyd_runs.proofs.Putting.{at_cases, put_cases, put_same, put_else, none_apart}
+use Rattle.pyd_runs.proofs.Without.{fresh_apart}
+use Rattle.pyd_runs.proofs.Knowing.{past_fresh}
 
 -- a ticket of an attempt
 abbrev ticket_of : ℕ → ℕ → Placed
@@ -56,6 +64,33 @@ counted d k attempt machine t next free =
           (let z = t.before_claim n b c now e q in let y = up n in omega arith);
     }
 
+-- a node that is needed stands in the chain, or is reached by it
+pub needed_reached : (p : Plan) (g : Graph) (stores : Stores) (k : ℕ) → IsGraphSound p g
+    → Needed g stores k → ((n : Node) × Contains g.chain n × (n.id ≡ k)) ⊎ Reached g k
+needed_reached p g stores k sound (in_chain n at) = inl (n, at, refl)
+needed_reached p g stores k sound (by_needed n k' at needed none names) =
+    elim (Contains-append_cases g.past g.chain n at) [
+      | inr chain ↦ inr (by_chain n k chain names)
+      | inl past ↦ elim (needed_reached p g stores n.id sound needed) [
+        | inl x ↦ absurd (fresh_apart n.id g.chain x.0 (past_fresh p g n sound past) x.1 x.2)
+        | inr reached ↦ inr (by_past n k past reached names)
+      ]
+    ]
+
+-- so what it names is settled, or stands in the chain
+pub needed_names : (p : Plan) (g : Graph) (stores : Stores) (k : ℕ) → IsGraphSound p g
+    → Needed g stores k → NamesPresent g k
+needed_names p g stores k sound needed n at number m names =
+    elim (Contains-append_cases g.past g.chain n at) [
+      | inr chain ↦ sound.present m (by_chain n m chain names)
+      | inl past ↦ elim (needed_reached p g stores k sound needed) [
+        | inl x ↦ absurd (fresh_apart n.id g.chain x.0 (past_fresh p g n sound past) x.1
+            (x.2 ∙ sym number))
+        | inr reached ↦
+            sound.present m (by_past n m past (subst (Reached g) (sym number) reached) names)
+      ]
+    ]
+
 -- the law
 pub place_keeps : PlaceLaw
 unfolding acted
@@ -80,10 +115,16 @@ place_keeps p s seat k attempt machine sound can =
           | inl here ↦ rw (here.0) (can.no_record, can.no_claim)
           | inr old ↦ h.ticket_alone n t old.1
         ];
+        ticket_names = λ n t e. elim (put_cases d.ticket k new n (Some t) e) [
+          | inl here ↦ rw (here.0)
+              (needed_names p s.graph d.stores k sound.graph can.is_needed)
+          | inr old ↦ h.ticket_names n t old.1
+        ];
         claimed = h.claimed;
         claim_heads = h.claim_heads;
         claim_alone = h.claim_alone;
         claim_lives = h.claim_lives;
+        claim_seat = h.claim_seat;
         undone_attempt = h.undone_attempt;
         undone_lost = h.undone_lost;
       };

@@ -17,19 +17,19 @@ abbrev pub without : ℕ → List Node → List Node
 without k ns = filter (λ n. if n.id == k then false else true) ns
 
 -- a node of a list is the first or one behind it
-first_or_behind : (y : Node) (xs : List Node) (x : Node) → Contains (y ∷ xs) x
+pub first_or_behind : (y : Node) (xs : List Node) (x : Node) → Contains (y ∷ xs) x
     → (y ≡ x) ⊎ Contains xs x
 first_or_behind y xs x (zero, within, is) = inl is
 first_or_behind y xs x (suc k, within, is) = inr (k, omega (arith, within), is)
 
-here : (x : Node) (xs : List Node) → Contains (x ∷ xs) x
+pub here : (x : Node) (xs : List Node) → Contains (x ∷ xs) x
 here x xs = (0, omega arith, refl)
 
-behind : (y : Node) (xs : List Node) (x : Node) → Contains xs x → Contains (y ∷ xs) x
+pub behind : (y : Node) (xs : List Node) (x : Node) → Contains xs x → Contains (y ∷ xs) x
 behind y xs x (k, within, is) = (suc k, omega (arith, within), is)
 
 -- truth values
-or_true : (b : Bool) → (b || true) ≡ true
+pub or_true : (b : Bool) → (b || true) ≡ true
 or_true true = refl
 or_true false = refl
 

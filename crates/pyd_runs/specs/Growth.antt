@@ -7,7 +7,7 @@ use Rattle.pyd_refine.specs.Composites.{refined_piece}
 use Rattle.pyd_refine.specs.Redirecting.{replaced}
 use Rattle.pyd_refine.specs.Readiness.{control_value}
 use Rattle.pyd_runs.specs.Plans.{Plan, limits_of}
-use Rattle.pyd_runs.specs.Graphs.{Graph}
+use Rattle.pyd_runs.specs.Graphs.{Graph, end_at}
 use Rattle.pyd_runs.specs.Desks.{Stores}
 use Rattle.pyd_runs.specs.Records.{node_at, recorded}
 
@@ -16,9 +16,13 @@ abbrev pub piece_for : Plan → Given → ℕ → Node → Piece
 piece_for p given next n =
     refined_piece p.file (limits_of p) n (control_value given n.work) next
 
--- the graph with a piece in the place of the node of a number
+-- the graph with a piece in the place of the node of a number; where no node is left, the run ends
 abbrev pub with_piece : Graph → ℕ → Piece → Graph
-with_piece g k piece = record g { chain = replaced k piece g.chain; next = piece.next }
+with_piece g k piece = record g {
+  chain = replaced k piece g.chain;
+  next = piece.next;
+  end = end_at (replaced k piece g.chain);
+}
 
 -- the graph with the piece of a node in its place, if it stands in the chain
 abbrev pub grown_by : Plan → Given → Graph → ℕ → Option Node → Graph

@@ -1,5 +1,5 @@
 -- What is promised of every run.
-use Rattle.std.specs.Prelude.{◌≡◌, ◌≢◌, ◌<◌, ◌≤◌, ◌==◌, ℕ, suc, List, [], ◌∷◌, ◌++◌, length, map, take, max, Bool, false, Some, None, ◌⊎◌}
+use Rattle.std.specs.Prelude.{◌≡◌, ◌≢◌, ◌<◌, ◌≤◌, ◌==◌, ℕ, suc, List, [], ◌∷◌, ◌++◌, length, map, take, max, ◌*◌, Bool, true, false, Some, None, ◌⊎◌}
 use Rattle.std.specs.List.{All, Contains, count_by, zip}
 use Rattle.pyd_value.specs.declared.value.Value.{Value}
 use Rattle.pyd_value.specs.declared.fault.End.{End}
@@ -7,12 +7,16 @@ use Rattle.pyd_board.specs.declared.event.Act.{Act}
 use Rattle.pyd_board.specs.declared.event.Act.TheVariants.{Place, Claim, Finish, Drop, Refine, Settle, Lose, Trim}
 use Rattle.pyd_board.specs.declared.event.Event.{Event}
 use Rattle.pyd_board.specs.declared.setup.Loss.{Loss}
+use Rattle.pyd_value.specs.declared.fault.Kind.{Kind}
+use Rattle.pyd_ir.specs.declared.arg.Arg.TheVariants.{Slot}
+use Rattle.pyd_ir.specs.declared.arg.Ref.{Ref}
 use Rattle.pyd_ir.specs.declared.node.Node.{Node}
+use Rattle.pyd_ir.specs.declared.work.Work.TheVariants.{Read}
 use Rattle.pyd_runs.specs.Plans.{Plan, meaning}
 use Rattle.pyd_runs.specs.Graphs.{Graph}
 use Rattle.pyd_runs.specs.Desks.{Held}
 use Rattle.pyd_runs.specs.Effects.{State, acted, happens}
-use Rattle.pyd_runs.specs.Enabled.{CanPlace, CanFinish, CanLose, CanTrim, Enabled, IsLoss, due}
+use Rattle.pyd_runs.specs.Enabled.{CanPlace, CanClaim, CanFinish, CanLose, CanRefine, CanSettle, CanTrim, Enabled, IsLoss, due}
 use Rattle.pyd_runs.specs.Replay.{IsLegal, replay}
 use Rattle.pyd_runs.specs.Sound.{IsSound, IsGraphSound, IsWhole, ports_seen, leaf_seen, sight}
 
@@ -45,6 +49,12 @@ abbrev pub PlaceLaw : Type 0
 PlaceLaw = (p : Plan) (s : State) (seat k attempt machine : ℕ) → IsSound p s
     → CanPlace p s k attempt machine → IsSound p (acted p s seat (Place k attempt machine))
 
+-- a claim of a live ticket keeps what holds
+abbrev pub ClaimLaw : Type 0
+ClaimLaw = (p : Plan) (s : State) (seat k attempt machine : ℕ) → IsSound p s
+    → CanClaim p s seat k attempt machine
+    → IsSound p (acted p s seat (Claim k attempt machine))
+
 -- a claim that may be finished keeps what holds
 abbrev pub FinishLaw : Type 0
 FinishLaw = (p : Plan) (s : State) (seat k attempt machine : ℕ) → IsSound p s
@@ -55,6 +65,21 @@ FinishLaw = (p : Plan) (s : State) (seat k attempt machine : ℕ) → IsSound p 
 abbrev pub DropLaw : Type 0
 DropLaw = (p : Plan) (s : State) (seat k attempt machine : ℕ) → IsSound p s
     → IsSound p (acted p s seat (Drop k attempt machine))
+
+-- the head of a chain that may be settled keeps what holds
+abbrev pub SettleLaw : Type 0
+SettleLaw = (p : Plan) (s : State) (seat k : ℕ) → IsSound p s → s.graph.end ≡ None
+    → CanSettle s k → IsSound p (acted p s seat (Settle k))
+
+-- a composite that may be refined keeps what holds
+abbrev pub RefineLaw : Type 0
+RefineLaw = (p : Plan) (s : State) (seat k : ℕ) → IsSound p s → s.graph.end ≡ None
+    → CanRefine p s k → IsSound p (acted p s seat (Refine k))
+
+-- every event that may come keeps what holds
+abbrev pub EventLaw : Type 0
+EventLaw = (p : Plan) (s : State) (e : Event) → IsSound p s → Enabled p s e
+    → IsSound p (happens p s e)
 
 -- what is seen of a settled node is what it gave, and of a node of the chain what it does by what is seen
 pub record IsSight (p : Plan) (g : Graph) : Type 0 where
@@ -102,6 +127,21 @@ IsForward (Settle k) = Unit {0}
 IsForward (Lose machine) = Unit {0}
 IsForward (Trim k) = ⊥
 
+-- the head of the chain reads a slot that has no value
+pub record HeadLacks (s : State) : Type 0 where
+  pub head : Node
+  pub rest : List Node
+  pub at : Ref
+  pub kind : Kind
+  pub chain : s.graph.chain ≡ head ∷ rest
+  pub reads : head.work ≡ Read (Slot at) kind
+  pub none : s.graph.given at.node at.port ≡ None
+
+-- a sound state in which the run hasn't ended goes on, unless its head reads such a slot
+abbrev pub GoLaw : Type 0
+GoLaw = (p : Plan) (s : State) → IsRunnable p → IsSound p s → s.graph.end ≡ None
+    → ((e : Event) × Enabled p s e × IsForward e.act) ⊎ HeadLacks s
+
 -- a run that hasn't ended can go on
 abbrev pub ProgressLaw : Type 0
 ProgressLaw = (p : Plan) (es : List Event) → IsRunnable p → IsLegal p es
@@ -123,6 +163,22 @@ settles k (Trim n) = false
 abbrev pub OnceLaw : Type 0
 OnceLaw = (p : Plan) (es : List Event) (k : ℕ) → IsRunnable p → IsLegal p es
     → count_by (λ e. settles k e.act) es ≤ 1
+
+-- an event takes the chain a step further: its head is settled, or a composite is refined
+abbrev pub advances : Act → Bool
+advances (Settle k) = true
+advances (Refine k) = true
+advances (Place k attempt machine) = false
+advances (Claim k attempt machine) = false
+advances (Finish k attempt machine) = false
+advances (Drop k attempt machine) = false
+advances (Lose machine) = false
+advances (Trim k) = false
+
+-- where only the head is refined, the chain takes at most 4 steps for each step of the script
+abbrev pub StepsLaw : Type 0
+StepsLaw = (p : Plan) (es : List Event) → IsRunnable p → p.setup.window ≡ 1 → IsLegal p es
+    → count_by (λ e. advances e.act) es ≤ 4 * (meaning p).steps
 
 -- a claim of a node stands, or a loss undid it and it wasn't dropped since
 abbrev pub IsHeld : State → ℕ → Held → Type 0

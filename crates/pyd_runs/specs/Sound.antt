@@ -6,17 +6,19 @@ use Rattle.pyd_value.specs.declared.fault.Fault.{Fault}
 use Rattle.pyd_value.specs.declared.fault.End.{End}
 use Rattle.pyd_value.specs.declared.fault.Outcome.TheVariants as outcome
 use Rattle.pyd_board.specs.declared.setup.Loss.{Loss}
+use Rattle.pyd_ir.specs.declared.job.Job.{Job}
 use Rattle.pyd_meaning.specs.declared.ran.Ran.{Ran}
 use Rattle.pyd_meaning.specs.Evaluation.{Evaluation}
 use Rattle.pyd_meaning.specs.Module.{end_of}
 use Rattle.pyd_ir.specs.declared.node.Node.{Node}
-use Rattle.pyd_ir.specs.Inputs.{Given, has_inputs, look, leaf_meaning}
-use Rattle.pyd_ir.specs.Meaning.{job_ran, ran_of}
+use Rattle.pyd_ir.specs.Arguments.{is_pure}
+use Rattle.pyd_ir.specs.Inputs.{Given, has_inputs, task_of, look, leaf_meaning}
+use Rattle.pyd_ir.specs.Meaning.{ran_of}
 use Rattle.pyd_ir.specs.Ports.{Ports, no_ports, ports_of}
 use Rattle.pyd_translate.specs.Walk.{walk, give}
 use Rattle.pyd_translate.specs.Supplied.{AreSupplied}
 use Rattle.pyd_refine.specs.Ordering.{IsOrdered, LieBelow}
-use Rattle.pyd_runs.specs.Plans.{Plan, limits_of, meaning}
+use Rattle.pyd_runs.specs.Plans.{Plan, IsSeatOf, limits_of, meaning}
 use Rattle.pyd_runs.specs.Graphs.{Graph, nodes}
 use Rattle.pyd_runs.specs.Desks.{Kept, Placed, Held, Desk}
 use Rattle.pyd_runs.specs.Records.{records, heads, is_ready}
@@ -78,6 +80,15 @@ AreOrdered [] = Unit {0}
 AreOrdered (n ∷ ns) =
     IsFresh n.id ns × ((k : ℕ) → Names n k → IsFresh k (n ∷ ns)) × AreOrdered ns
 
+-- the driver has no record of a pure node
+abbrev pub KeepsEffects : Graph → Type 0
+KeepsEffects g = (n : Node) → Contains (nodes g) n → is_pure n.work ≡ true → g.driver n.id ≡ None
+
+-- what a node names is settled and may be named, or stands in the chain
+abbrev pub NamesPresent : Graph → ℕ → Type 0
+NamesPresent g k = (n : Node) → Contains (nodes g) n → n.id ≡ k
+    → (m : ℕ) → Names n m → IsTrue (is_over g m || stands m g.chain)
+
 -- a node that was there and is gone
 abbrev pub IsGone : Graph → ℕ → Type 0
 IsGone g k = (k < g.next) × IsFresh k (nodes g)
@@ -112,17 +123,29 @@ pub record IsGraphSound (p : Plan) (g : Graph) : Type 0 where
   -- what the chain reaches is settled and may be named, or stands in the chain
   pub present : (k : ℕ) → Reached g k → IsTrue (is_over g k || stands k g.chain)
   pub driven : (k : ℕ) (ran : Ran) → g.driver k ≡ Some ran → IsFresh k g.chain → IsDriven g k ran
+  pub effects : KeepsEffects g
   -- nothing stands at the ports of a node that isn't settled or not yet made
   pub blank : (k port : ℕ) → IsTrue (stands k g.chain) ⊎ (g.next ≤ k) → g.given k port ≡ None
 
--- what was done of a node is what it does by what is seen
+-- what was done of a node with a job is what it does by what is seen, where all that it waits for is seen
 pub record IsSeen (p : Plan) (g : Graph) (k : ℕ) (ran : Ran) : Type 0 where
   pub node : Node
   pub stands : Contains (nodes g) node
   pub number : node.id ≡ k
   pub does : Evaluation Value
-  pub meaning : leaf_meaning p.file (limits_of p) (sight p g) node ≡ Some does
+  pub meaning : leaf_seen p (sight p g) node ≡ Some does
+  pub has_job : IsTrue (is_some (task_of (sight p g) node.work))
   pub as_done : ran ≡ ran_of does
+
+-- a job is its node's, with the values that are seen
+pub record IsJob (p : Plan) (g : Graph) (k : ℕ) (job : Job) : Type 0 where
+  pub node : Node
+  pub stands : Contains (nodes g) node
+  pub number : node.id ≡ k
+  pub inputs : IsTrue (has_inputs (sight p g) node.work)
+  pub task : task_of (sight p g) node.work ≡ Some job.task
+  pub line : job.line ≡ node.line
+  pub depth : job.depth ≡ node.depth
 
 -- stores, tickets and claims: each record is what its node gives, and a node has one of the three at most
 pub record IsDeskSound (p : Plan) (g : Graph) (d : Desk) (lost : ℕ → Bool) : Type 0 where
@@ -134,13 +157,14 @@ pub record IsDeskSound (p : Plan) (g : Graph) (d : Desk) (lost : ℕ → Bool) :
   pub ticket_ready : (k : ℕ) (t : Placed) → d.ticket k ≡ Some t → IsTrue (is_ready g d.stores k)
   pub ticket_alone : (k : ℕ) (t : Placed) → d.ticket k ≡ Some t
       → (records g d.stores k ≡ None) × (d.claim k ≡ None)
-  pub claimed : (k : ℕ) (c : Held) → d.claim k ≡ Some c
-      → IsSeen p g k (job_ran p.file (limits_of p) c.job) ⊎ IsGone g k
+  pub ticket_names : (k : ℕ) (t : Placed) → d.ticket k ≡ Some t → NamesPresent g k
+  pub claimed : (k : ℕ) (c : Held) → d.claim k ≡ Some c → IsJob p g k c.job ⊎ IsGone g k
   -- a call that isn't pure is claimed as the chain's head
   pub claim_heads : (k : ℕ) (c : Held) → d.claim k ≡ Some c → IsTrue (is_run c.job.task)
       → IsTrue (heads k g.chain)
   pub claim_alone : (k : ℕ) (c : Held) → d.claim k ≡ Some c → records g d.stores k ≡ None
   pub claim_lives : (k : ℕ) (c : Held) → d.claim k ≡ Some c → Lives p lost c.machine
+  pub claim_seat : (k : ℕ) (c : Held) → d.claim k ≡ Some c → IsSeatOf p c.machine c.seat
   pub undone_attempt : (k attempt : ℕ) (c : Held) → d.undone k attempt ≡ Some c
       → c.attempt ≡ attempt
   pub undone_lost : (k attempt : ℕ) (c : Held) → d.undone k attempt ≡ Some c

@@ -1,5 +1,5 @@
 //! The laws of runs: contracts of functions with empty bodies.
-ghost use Rattle.pyd_runs.specs.Laws.{BarLaw, DropLaw, FinishLaw, HoldLaw, LoseLaw, LossLaw, PlaceLaw, SightLaw, TrimLaw};
+ghost use Rattle.pyd_runs.specs.Laws.{BarLaw, ClaimLaw, DropLaw, FinishLaw, HoldLaw, LoseLaw, LossLaw, PlaceLaw, SightLaw, TrimLaw};
 
 /// While a run goes on, a loss that is due bars any other event.
 pub fn bar_law()
@@ -44,4 +44,9 @@ pub fn loss_law()
 /// A past node that may be trimmed keeps what holds.
 pub fn trim_law()
     ensures { TrimLaw }
+{}
+
+/// A claim of a live ticket keeps what holds.
+pub fn claim_law()
+    ensures { ClaimLaw }
 {}
