@@ -14,3 +14,7 @@ pub mod Standing
 pub mod Within
 pub mod Knowing
 pub mod Claiming
+pub mod Leaves
+pub mod Passing
+pub mod Passed
+pub mod Settling
