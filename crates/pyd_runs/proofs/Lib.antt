@@ -18,3 +18,8 @@ pub mod Leaves
 pub mod Passing
 pub mod Passed
 pub mod Settling
+pub mod Redirected
+pub mod Leading
+pub mod Growing
+pub mod Refining
+pub mod Refined

@@ -1,5 +1,5 @@
 //! The laws of runs: contracts of functions with empty bodies.
-ghost use Rattle.pyd_runs.specs.Laws.{BarLaw, ClaimLaw, DropLaw, FinishLaw, HoldLaw, LoseLaw, LossLaw, PlaceLaw, SettleLaw, SightLaw, TrimLaw};
+ghost use Rattle.pyd_runs.specs.Laws.{BarLaw, ClaimLaw, DropLaw, FinishLaw, HoldLaw, LoseLaw, LossLaw, PlaceLaw, RefineLaw, SettleLaw, SightLaw, TrimLaw};
 
 /// While a run goes on, a loss that is due bars any other event.
 pub fn bar_law()
@@ -54,4 +54,9 @@ pub fn claim_law()
 /// The head of the chain that may be settled keeps what holds, whatever it gave.
 pub fn settle_law()
     ensures { SettleLaw }
+{}
+
+/// A composite that may be refined keeps what holds.
+pub fn refine_law()
+    ensures { RefineLaw }
 {}
