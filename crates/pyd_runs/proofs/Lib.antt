@@ -23,3 +23,5 @@ pub mod Leading
 pub mod Growing
 pub mod Refining
 pub mod Refined
+pub mod Running
+pub mod Starting

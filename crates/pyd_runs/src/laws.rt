@@ -1,5 +1,5 @@
 //! The laws of runs: contracts of functions with empty bodies.
-ghost use Rattle.pyd_runs.specs.Laws.{BarLaw, ClaimLaw, DropLaw, FinishLaw, HoldLaw, LoseLaw, LossLaw, PlaceLaw, RefineLaw, SettleLaw, SightLaw, TrimLaw};
+ghost use Rattle.pyd_runs.specs.Laws.{BarLaw, ClaimLaw, DropLaw, EndLaw, EventLaw, FinishLaw, HoldLaw, LoseLaw, LossLaw, PlaceLaw, PrefixLaw, RefineLaw, RunLaw, SettleLaw, SightLaw, TrimLaw};
 
 /// While a run goes on, a loss that is due bars any other event.
 pub fn bar_law()
@@ -59,4 +59,24 @@ pub fn settle_law()
 /// A composite that may be refined keeps what holds.
 pub fn refine_law()
     ensures { RefineLaw }
+{}
+
+/// Every event that may come keeps what holds.
+pub fn event_law()
+    ensures { EventLaw }
+{}
+
+/// What holds before any event holds after every legal run, wherever machines are lost.
+pub fn run_law()
+    ensures { RunLaw }
+{}
+
+/// The lines that a legal run put out are the first of the script's.
+pub fn prefix_law()
+    ensures { PrefixLaw }
+{}
+
+/// A legal run that has ended put out all of the script's lines, and ended as the script does.
+pub fn end_law()
+    ensures { EndLaw }
 {}
