@@ -25,3 +25,4 @@ pub mod Refining
 pub mod Refined
 pub mod Running
 pub mod Starting
+pub mod Once

@@ -1,5 +1,5 @@
 //! The laws of runs: contracts of functions with empty bodies.
-ghost use Rattle.pyd_runs.specs.Laws.{BarLaw, ClaimLaw, DropLaw, EndLaw, EventLaw, FinishLaw, HoldLaw, LoseLaw, LossLaw, PlaceLaw, PrefixLaw, RefineLaw, RunLaw, SettleLaw, SightLaw, TrimLaw};
+ghost use Rattle.pyd_runs.specs.Laws.{BarLaw, ClaimLaw, DropLaw, EndLaw, EventLaw, FinishLaw, HoldLaw, LoseLaw, LossLaw, OnceLaw, PlaceLaw, PrefixLaw, RefineLaw, RunLaw, SettleLaw, SightLaw, TrimLaw};
 
 /// While a run goes on, a loss that is due bars any other event.
 pub fn bar_law()
@@ -79,4 +79,9 @@ pub fn prefix_law()
 /// A legal run that has ended put out all of the script's lines, and ended as the script does.
 pub fn end_law()
     ensures { EndLaw }
+{}
+
+/// No node is settled twice in a legal run.
+pub fn once_law()
+    ensures { OnceLaw }
 {}
