@@ -26,3 +26,4 @@ pub mod Refined
 pub mod Running
 pub mod Starting
 pub mod Once
+pub mod Again

@@ -1,5 +1,5 @@
 //! The laws of runs: contracts of functions with empty bodies.
-ghost use Rattle.pyd_runs.specs.Laws.{BarLaw, ClaimLaw, DropLaw, EndLaw, EventLaw, FinishLaw, HoldLaw, LoseLaw, LossLaw, OnceLaw, PlaceLaw, PrefixLaw, RefineLaw, RunLaw, SettleLaw, SightLaw, TrimLaw};
+ghost use Rattle.pyd_runs.specs.Laws.{AgainLaw, BarLaw, ClaimLaw, DropLaw, EndLaw, EventLaw, FinishLaw, HoldLaw, LoseLaw, LossLaw, OnceLaw, PlaceLaw, PrefixLaw, RefineLaw, RunLaw, SettleLaw, SightLaw, TrimLaw};
 
 /// While a run goes on, a loss that is due bars any other event.
 pub fn bar_law()
@@ -84,4 +84,9 @@ pub fn end_law()
 /// No node is settled twice in a legal run.
 pub fn once_law()
     ensures { OnceLaw }
+{}
+
+/// Between two claims of one node stands a loss of the machine that claimed it first.
+pub fn again_law()
+    ensures { AgainLaw }
 {}
