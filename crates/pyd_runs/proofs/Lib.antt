@@ -27,3 +27,5 @@ pub mod Running
 pub mod Starting
 pub mod Once
 pub mod Again
+pub mod Going
+pub mod Progress

@@ -1,5 +1,5 @@
 //! The laws of runs: contracts of functions with empty bodies.
-ghost use Rattle.pyd_runs.specs.Laws.{AgainLaw, BarLaw, ClaimLaw, DropLaw, EndLaw, EventLaw, FinishLaw, HoldLaw, LoseLaw, LossLaw, OnceLaw, PlaceLaw, PrefixLaw, RefineLaw, RunLaw, SettleLaw, SightLaw, TrimLaw};
+ghost use Rattle.pyd_runs.specs.Laws.{AgainLaw, BarLaw, ClaimLaw, DropLaw, EndLaw, EventLaw, FinishLaw, GoLaw, HoldLaw, LoseLaw, LossLaw, OnceLaw, PlaceLaw, PrefixLaw, RefineLaw, RunLaw, SettleLaw, SightLaw, TrimLaw};
 
 /// While a run goes on, a loss that is due bars any other event.
 pub fn bar_law()
@@ -89,4 +89,10 @@ pub fn once_law()
 /// Between two claims of one node stands a loss of the machine that claimed it first.
 pub fn again_law()
     ensures { AgainLaw }
+{}
+
+/// A sound state in which the run hasn't ended has an event that is neither a Trim nor a Drop, unless its
+/// head reads a slot that has no value.
+pub fn go_law()
+    ensures { GoLaw }
 {}
