@@ -29,3 +29,4 @@ pub mod Once
 pub mod Again
 pub mod Going
 pub mod Progress
+pub mod Stepping
