@@ -30,3 +30,4 @@ pub mod Again
 pub mod Going
 pub mod Progress
 pub mod Stepping
+pub mod Promising

@@ -10,3 +10,4 @@ pub mod Enabled
 pub mod Replay
 pub mod Sound
 pub mod Laws
+pub mod Promise

@@ -1,5 +1,6 @@
 //! The laws of runs: contracts of functions with empty bodies.
 ghost use Rattle.pyd_runs.specs.Laws.{AgainLaw, BarLaw, ClaimLaw, DropLaw, EndLaw, EventLaw, FinishLaw, GoLaw, HoldLaw, LoseLaw, LossLaw, OnceLaw, PlaceLaw, PrefixLaw, RefineLaw, RunLaw, SettleLaw, SightLaw, StepsLaw, TrimLaw};
+ghost use Rattle.pyd_runs.specs.Promise.{Promise};
 
 /// While a run goes on, a loss that is due bars any other event.
 pub fn bar_law()
@@ -101,4 +102,10 @@ pub fn go_law()
 /// script's meaning.
 pub fn steps_law()
     ensures { StepsLaw }
+{}
+
+/// What is promised of every legal run: its lines are the first of the script's, and at its end all of them;
+/// no node is settled twice, or claimed again without a loss; and losses come at their places.
+pub fn promise_law()
+    ensures { Promise }
 {}
