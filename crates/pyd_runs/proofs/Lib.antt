@@ -31,3 +31,4 @@ pub mod Going
 pub mod Progress
 pub mod Stepping
 pub mod Promising
+pub mod Lineage

@@ -1,5 +1,5 @@
 -- What is promised of every run.
-use Rattle.std.specs.Prelude.{◌≡◌, ◌≢◌, ◌<◌, ◌≤◌, ◌==◌, ℕ, suc, List, [], ◌∷◌, ◌++◌, length, map, take, max, ◌*◌, Bool, true, false, Some, None, ◌⊎◌}
+use Rattle.std.specs.Prelude.{◌≡◌, ◌≢◌, ◌<◌, ◌≤◌, ◌==◌, ℕ, suc, List, [], ◌∷◌, ◌++◌, length, map, take, max, ◌*◌, Bool, true, false, Some, None, is_some, IsTrue, ◌⊎◌}
 use Rattle.std.specs.List.{All, Contains, count_by, zip}
 use Rattle.pyd_value.specs.declared.value.Value.{Value}
 use Rattle.pyd_value.specs.declared.fault.End.{End}
@@ -12,13 +12,16 @@ use Rattle.pyd_ir.specs.declared.arg.Arg.TheVariants.{Slot}
 use Rattle.pyd_ir.specs.declared.arg.Ref.{Ref}
 use Rattle.pyd_ir.specs.declared.node.Node.{Node}
 use Rattle.pyd_ir.specs.declared.work.Work.TheVariants.{Read}
+use Rattle.pyd_lineage.specs.Lineage.{Reaches, is_among}
 use Rattle.pyd_runs.specs.Plans.{Plan, meaning}
 use Rattle.pyd_runs.specs.Graphs.{Graph}
-use Rattle.pyd_runs.specs.Desks.{Held}
+use Rattle.pyd_runs.specs.Desks.{Held, Stores}
+use Rattle.pyd_runs.specs.Records.{records}
+use Rattle.pyd_runs.specs.Reach.{Reached, Needed}
 use Rattle.pyd_runs.specs.Effects.{State, acted, happens}
 use Rattle.pyd_runs.specs.Enabled.{CanPlace, CanClaim, CanFinish, CanLose, CanRefine, CanSettle, CanTrim, Enabled, IsLoss, due}
 use Rattle.pyd_runs.specs.Replay.{IsLegal, replay}
-use Rattle.pyd_runs.specs.Sound.{IsSound, IsGraphSound, IsWhole, ports_seen, leaf_seen, sight}
+use Rattle.pyd_runs.specs.Sound.{IsSound, IsGraphSound, IsWhole, ports_seen, leaf_seen, sight, stands}
 
 -- entries in order of their events
 abbrev pub AreInOrder : List Loss → Type 0
@@ -38,6 +41,18 @@ pub record IsRunnable (p : Plan) : Type 0 where
   pub different : AreDifferent p.setup.losses
   pub machines : All (λ l. l.machine < p.setup.machines) p.setup.losses
   pub some_spared : length p.setup.losses < p.setup.machines
+
+-- what the chain reaches is what lineage says that it reaches
+abbrev pub ReachLaw : Type 0
+ReachLaw = (g : Graph) (k : ℕ)
+    → (Reached g k → Reaches g.past g.chain [] k) × (Reaches g.past g.chain [] k → Reached g k)
+
+-- what is needed stands in the chain, or is what lineage says that the chain reaches where all that has a record is known
+abbrev pub NeedLaw : Type 0
+NeedLaw = (p : Plan) (g : Graph) (stores : Stores) (known : List ℕ) (k : ℕ) → IsGraphSound p g
+    → ((n : ℕ) → is_among known n ≡ is_some (records g stores n))
+    → (Needed g stores k → IsTrue (stands k g.chain) ⊎ Reaches g.past g.chain known k)
+    × (IsTrue (stands k g.chain) ⊎ Reaches g.past g.chain known k → Needed g stores k)
 
 -- while a run goes on, a loss that is due bars any other event
 abbrev pub BarLaw : Type 0

@@ -1,5 +1,5 @@
 //! The laws of runs: contracts of functions with empty bodies.
-ghost use Rattle.pyd_runs.specs.Laws.{AgainLaw, BarLaw, ClaimLaw, DropLaw, EndLaw, EventLaw, FinishLaw, GoLaw, HoldLaw, LoseLaw, LossLaw, OnceLaw, PlaceLaw, PrefixLaw, RefineLaw, RunLaw, SettleLaw, SightLaw, StepsLaw, TrimLaw};
+ghost use Rattle.pyd_runs.specs.Laws.{AgainLaw, BarLaw, ClaimLaw, DropLaw, EndLaw, EventLaw, FinishLaw, GoLaw, HoldLaw, LoseLaw, LossLaw, NeedLaw, OnceLaw, PlaceLaw, PrefixLaw, ReachLaw, RefineLaw, RunLaw, SettleLaw, SightLaw, StepsLaw, TrimLaw};
 ghost use Rattle.pyd_runs.specs.Promise.{Promise};
 
 /// While a run goes on, a loss that is due bars any other event.
@@ -108,4 +108,15 @@ pub fn steps_law()
 /// no node is settled twice, or claimed again without a loss; and losses come at their places.
 pub fn promise_law()
     ensures { Promise }
+{}
+
+/// What the chain reaches through arguments is what lineage says that it reaches.
+pub fn reach_law()
+    ensures { ReachLaw }
+{}
+
+/// What is needed stands in the chain, or is what lineage says that the chain reaches, all that has a record
+/// being known.
+pub fn need_law()
+    ensures { NeedLaw }
 {}
