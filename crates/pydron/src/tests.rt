@@ -1,6 +1,7 @@
 //! The program over memory: scripts, their output, error lines and statuses.
 ghost use Rattle.std.specs.Prelude.{◌≡◌, ◌≤◌, ◌-◌, ◌^◌, Contains, IfOk};
 
+mod calls;
 mod rows;
 mod scripts;
 mod streams;
