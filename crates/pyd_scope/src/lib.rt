@@ -29,6 +29,7 @@ mod uses;
 mod words;
 
 pub use checks::check;
+pub use jumps::{Jump, least_jump};
 pub use program::Program;
 pub use refusal::{CheckStop, Refusal};
 pub use routine::Routine;

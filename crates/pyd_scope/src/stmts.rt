@@ -48,7 +48,7 @@ pub struct Place<'p> {
 
 impl<'p> Stmts<'p> {
     /// No statements.
-    pub(crate) fn none() -> Stmts<'p>
+    pub fn none() -> Stmts<'p>
         ensures { result ≡ [] }
     {
         Stmts {
@@ -57,7 +57,7 @@ impl<'p> Stmts<'p> {
     }
 
     /// The statements of a suite, but for so many.
-    pub(crate) fn of_block(block: &'p Block, count: u32) -> Stmts<'p>
+    pub fn of_block(block: &'p Block, count: u32) -> Stmts<'p>
         ensures { result ≡ drop count (spec.block_stmts block.now) }
     {
         let stmts = behind(block.stmts.as_slice(), count);
