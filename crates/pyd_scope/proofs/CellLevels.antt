@@ -1,15 +1,13 @@
 -- The cells of an expression, by its first level.
-use Rattle.std.proofs.Common.{◌≡◌, ℕ, suc, ◌+◌, List, [], ◌∷◌, ◌++◌, map, length, Option, Some, None, refl, sym, ap, ◌∙◌}
-use Rattle.std.specs.Prelude.{option_map}
+use Rattle.std.proofs.Common.{◌≡◌, ℕ, suc, ◌+◌, List, [], ◌∷◌, ◌++◌, map, length, Some, None, refl, sym, ap, ◌∙◌}
 use Rattle.pyd_tree.specs.declared.expression.Expr.{Expr, out-Expr, fold-Expr}
 use Rattle.pyd_tree.specs.declared.expression.Expr.TheOpen.{Expr-F, Suffix-F}
 use Rattle.pyd_tree.specs.declared.expression.Expr.TheFolds.{map-Expr, map-Suffix, fold_out-Expr, fold_out-Suffix}
 use Rattle.pyd_tree.specs.declared.expression.Suffix.{Suffix, out-Suffix, fold-Suffix}
 use Rattle.pyd_scope.specs.declared.cells.Origin.{Origin}
 use Rattle.pyd_scope.specs.declared.cells.Origin.TheVariants.{Part}
-use Rattle.pyd_scope.specs.declared.cells.ExpressionCell.{ExpressionCell}
 use Rattle.pyd_scope.specs.Parting.{direct, brackets}
-use Rattle.pyd_scope.specs.Cells.{Celled, Bounded, placed_from, placed, bounds, bounds_from, parts, in_turn, headed_cells, cells_step, bounds_step, expression_cells, suffix_parts, expression_parts, part_cells}
+use Rattle.pyd_scope.specs.Cells.{Celled, Bounded, placed_from, bounds, bounds_from, parts, in_turn, headed_cells, cells_step, bounds_step, expression_cells, suffix_parts, expression_parts, part_cells}
 
 -- parts with what is made of each
 abbrev pub each_made : {A B : Type 0} → (A → B) → List (Origin × A) → List (Origin × B)

@@ -8,7 +8,7 @@ use Rattle.pyd_tree.specs.declared.expression.Suffix.{Suffix, out-Suffix}
 use Rattle.pyd_scope.specs.declared.cells.Origin.{Origin}
 use Rattle.pyd_scope.specs.declared.cells.Origin.TheVariants.{Part, Low, High}
 use Rattle.pyd_scope.specs.Numbering.{expressions}
-use Rattle.pyd_scope.specs.Parting.{direct, brackets, direct_of, suffixes_of, low_in, high_in}
+use Rattle.pyd_scope.specs.Parting.{direct, brackets, direct_of, suffixes_of}
 use Rattle.pyd_scope.specs.Cells.{placed_from, placed, bounds, bounds_from, expression_cells, suffix_parts, expression_parts, part_cells}
 use Rattle.pyd_scope.proofs.Induction.{Each, Maybe, InBrackets, InParts, by_parts}
 use Rattle.pyd_scope.proofs.Expressions.{bracketed_expressions, member_expressions, operand_expressions, all_bracketed, part_expressions, expressions_out}

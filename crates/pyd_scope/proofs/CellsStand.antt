@@ -1,8 +1,8 @@
 -- The cell of each expression says what the expression is a part of, and where it ends.
-use Rattle.std.proofs.Common.{◌≡◌, ◌<◌, ◌≤◌, ℕ, zero, suc, ◌+◌, List, [], ◌∷◌, ◌++◌, length, drop, Option, Some, None, refl, sym, ap, subst, ◌∙◌, arith}
+use Rattle.std.proofs.Common.{◌≡◌, ◌<◌, ◌≤◌, ℕ, zero, suc, ◌+◌, List, [], ◌∷◌, length, drop, Option, Some, None, refl, sym, ap, subst, ◌∙◌, arith}
 use Rattle.std.specs.Prelude.{slice_get, option_map, option_and_then}
 use Rattle.pyd_tree.specs.declared.expression.Expr.{Expr, out-Expr}
-use Rattle.pyd_tree.specs.declared.expression.Suffix.{Suffix, out-Suffix}
+use Rattle.pyd_tree.specs.declared.expression.Suffix.{Suffix}
 use Rattle.pyd_scope.specs.declared.cells.Origin.{Origin}
 use Rattle.pyd_scope.specs.declared.cells.Origin.TheVariants.{Header, Part, Low, High}
 use Rattle.pyd_scope.specs.declared.cells.ExpressionCell.{ExpressionCell}

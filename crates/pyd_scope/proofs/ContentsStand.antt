@@ -6,7 +6,7 @@ use Rattle.pyd_tree.specs.declared.statement.Arm.{Arm}
 use Rattle.pyd_tree.specs.declared.statement.Stmt.{Stmt}
 use Rattle.pyd_scope.specs.Numbering.{Entry, Contents, nothing, followed, headed, inner, arm_contents, arms_contents, Point, point, past, inside, Stands}
 use Rattle.pyd_scope.proofs.Stands.{stands_nothing, stands_first, stands_second, stands_behind}
-use Rattle.pyd_scope.proofs.Contents.{IsKeptBy, of_inner, of_arm_contents, of_contents}
+use Rattle.pyd_scope.proofs.Contents.{IsKeptBy, of_inner, of_arm_contents}
 
 -- there are as many entries as statements, whatever the number of the first expression is
 abbrev pub IsSized : Contents → Type 0

@@ -1,5 +1,5 @@
 -- The places and the cells that an index keeps.
-use Rattle.std.proofs.Common.{◌≡◌, ◌<◌, ◌≤◌, ℕ, zero, suc, ◌+◌, List, [], ◌∷◌, ◌++◌, map, length, drop, get_or, Bool, true, false, not, if◌then◌else◌, Option, Some, None, Bor, refl, sym, ap, ◌∙◌, append_assoc, append-nil}
+use Rattle.std.proofs.Common.{◌≡◌, ◌<◌, ◌≤◌, ℕ, suc, ◌+◌, List, [], ◌∷◌, ◌++◌, map, length, drop, get_or, Bool, true, false, not, if◌then◌else◌, Option, Some, None, Bor, refl, sym, ap, ◌∙◌, append_assoc, append-nil}
 use Rattle.std.specs.Prelude.{slice_get, is_some, ◌&&◌}
 use Rattle.pyd_value.specs.declared.value.Value.{Value}
 use Rattle.pyd_tree.specs.declared.statement.Stmt.{Stmt}
@@ -8,7 +8,7 @@ use Rattle.pyd_tree.specs.declared.file.Item.{Item}
 use Rattle.pyd_tree.specs.declared.file.Item.TheVariants as item
 use Rattle.pyd_names.specs.Binding.{Line, Constant, Statement, line_of, statement_line, lines_from, lines, binds_once, is_constant, statement_in, literal_assignment, constants_may_follow}
 use Rattle.pyd_scope.specs.declared.cells.Suite.{Suite}
-use Rattle.pyd_scope.specs.Cells.{Making, then_cells, stmts_from, stmt_cells}
+use Rattle.pyd_scope.specs.Cells.{then_cells, stmts_from, stmt_cells}
 use Rattle.pyd_scope.specs.Indexing.{is_unmarked, places_from, unmarked_from, statement_places}
 use Rattle.pyd_scope.proofs.Stands.{dropped_first}
 use Rattle.pyd_scope.proofs.CellsStand.{drop_more}

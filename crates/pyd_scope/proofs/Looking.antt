@@ -1,9 +1,8 @@
 -- What is found by the cells of a routine is what has the number.
-use Rattle.std.proofs.Common.{◌≡◌, ◌<◌, ℕ, zero, suc, ◌+◌, List, [], ◌∷◌, map, length, drop, Option, Some, None, refl, sym, ap, subst, ◌∙◌, arith}
+use Rattle.std.proofs.Common.{◌≡◌, ℕ, zero, suc, ◌+◌, List, length, drop, Option, Some, None, refl, sym, ap, subst, ◌∙◌, arith}
 use Rattle.std.specs.Prelude.{slice_get, option_map, option_and_then}
 use Rattle.pyd_tree.specs.declared.expression.Expr.{Expr}
 use Rattle.pyd_tree.specs.declared.expression.Suffix.{Suffix}
-use Rattle.pyd_tree.specs.declared.statement.Block.{out-Block}
 use Rattle.pyd_tree.specs.declared.statement.Stmt.{Stmt}
 use Rattle.pyd_tree.specs.declared.file.File.{File}
 use Rattle.pyd_tree.specs.declared.file.Func.{Func}
@@ -14,7 +13,7 @@ use Rattle.pyd_scope.specs.declared.cells.ExpressionCell.{ExpressionCell}
 use Rattle.pyd_scope.specs.declared.cells.StatementCell.{StatementCell}
 use Rattle.pyd_scope.specs.Numbering.{Entry, contents, expressions, body, body_of, table, expression_table, point, past_first, start}
 use Rattle.pyd_scope.specs.Parting.{part_at, low, high, header_at}
-use Rattle.pyd_scope.specs.Locating.{statement_in, suffix_at, located, suite_stmts, entry_in}
+use Rattle.pyd_scope.specs.Locating.{statement_in, suffix_at, located, suite_stmts}
 use Rattle.pyd_scope.specs.Cells.{Cells, body_cells}
 use Rattle.pyd_scope.specs.Indexing.{function_cells, routine_cells, statement_cell, expression_cell}
 use Rattle.pyd_scope.proofs.Items.{map_at, none_in_either}

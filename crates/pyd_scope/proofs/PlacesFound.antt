@@ -5,10 +5,9 @@ use Rattle.std.specs.List.{filter_map, cons_option}
 use Rattle.pyd_value.specs.declared.value.Value.{Value}
 use Rattle.pyd_tree.specs.declared.statement.Stmt.{Stmt}
 use Rattle.pyd_tree.specs.declared.file.File.{File}
-use Rattle.pyd_tree.specs.declared.file.Func.{Func}
 use Rattle.pyd_tree.specs.declared.file.Item.{Item}
 use Rattle.pyd_tree.specs.declared.file.Item.TheVariants as item
-use Rattle.pyd_names.specs.Binding.{Line, Constant, Statement, line_of, statement_line, lines_from, lines, binds_once, statement_in, function_in, functions, module_statements, literal_assignment, constants_may_follow}
+use Rattle.pyd_names.specs.Binding.{Constant, Statement, line_of, statement_line, lines_from, binds_once, statement_in, function_in, functions, module_statements, literal_assignment, constants_may_follow}
 use Rattle.pyd_scope.specs.Blocks.{item_stmt, stmt_at, placed_stmts}
 use Rattle.pyd_scope.specs.Indexing.{places_from, statement_places, function_places}
 use Rattle.pyd_scope.proofs.Stands.{dropped_first}

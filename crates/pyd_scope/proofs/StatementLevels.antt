@@ -1,5 +1,5 @@
 -- The cells of statements, by their first level.
-use Rattle.std.proofs.Common.{◌≡◌, ℕ, zero, suc, List, [], ◌∷◌, map, Option, Some, None, refl, ap, ◌∙◌}
+use Rattle.std.proofs.Common.{◌≡◌, ℕ, suc, List, [], ◌∷◌, map, Some, None, refl, ap, ◌∙◌}
 use Rattle.pyd_tree.specs.declared.statement.What.{What, out-What, fold-What}
 use Rattle.pyd_tree.specs.declared.statement.What.TheOpen.{What-F}
 use Rattle.pyd_tree.specs.declared.statement.What.TheFolds.{map-What, fold_out-What, fold_out-Arm, fold_out-Block, fold_out-Stmt}

@@ -6,7 +6,7 @@ use Rattle.pyd_tree.specs.declared.expression.Expr.{Expr}
 use Rattle.pyd_tree.specs.declared.statement.What.{What, out-What}
 use Rattle.pyd_tree.specs.declared.statement.What.TheOpen.{What-F}
 use Rattle.pyd_tree.specs.declared.statement.Arm.{Arm, out-Arm}
-use Rattle.pyd_tree.specs.declared.statement.Block.{Block, out-Block}
+use Rattle.pyd_tree.specs.declared.statement.Block.{Block}
 use Rattle.pyd_tree.specs.declared.statement.Stmt.{Stmt}
 use Rattle.pyd_scope.specs.declared.cells.Origin.TheVariants.{Header}
 use Rattle.pyd_scope.specs.declared.cells.Suite.{Suite}
@@ -21,7 +21,7 @@ use Rattle.pyd_scope.proofs.Induction.{Each, Maybe, InSuite, InSuites, by_suites
 use Rattle.pyd_scope.proofs.Contents.{block_contents, what_inner, inner_out, of_contents}
 use Rattle.pyd_scope.proofs.Contents as levels
 use Rattle.pyd_scope.proofs.Froms.{AllFrom, from-append}
-use Rattle.pyd_scope.proofs.Stands.{stands_at, stands_whole, dropped_first}
+use Rattle.pyd_scope.proofs.Stands.{stands_at, dropped_first}
 use Rattle.pyd_scope.proofs.ContentsStand.{IsSized, sized, sized_both, sized_inner, past_both, StandsAt, first_at, second_at, inside_at}
 use Rattle.pyd_scope.proofs.CellParts.{counted}
 use Rattle.pyd_scope.proofs.CellsStand.{drop_more, IsCell, has_cells}

@@ -1,5 +1,5 @@
 -- Cells that are put one behind the other are those of the whole.
-use Rattle.std.proofs.Common.{◌≡◌, ◌<◌, ◌≤◌, ℕ, zero, suc, ◌+◌, List, [], ◌∷◌, ◌++◌, length, drop, Option, Some, None, Result, Ok, Err, get_or, refl, sym, ap, subst, ◌∙◌, append_assoc, append-nil, arith}
+use Rattle.std.proofs.Common.{◌≡◌, ◌<◌, ◌≤◌, ℕ, zero, suc, ◌+◌, List, [], ◌∷◌, ◌++◌, length, drop, Option, Some, None, Result, Ok, Err, get_or, refl, sym, ap, ◌∙◌, append_assoc, append-nil, arith}
 use Rattle.std.specs.Prelude.{slice_get, slice_set, OnOk}
 use Rattle.std.proofs.lemmas.List.{length-append}
 use Rattle.pyd_tree.specs.declared.expression.Expr.{Expr, out-Expr}
@@ -10,9 +10,9 @@ use Rattle.pyd_scope.specs.declared.cells.Origin.TheVariants.{Part}
 use Rattle.pyd_scope.specs.declared.cells.ExpressionCell.{ExpressionCell}
 use Rattle.pyd_scope.specs.Numbering.{expressions}
 use Rattle.pyd_scope.specs.Parting.{direct_of, suffixes_of, low_in, high_in, low, high}
-use Rattle.pyd_scope.specs.Cells.{placed_from, bounds_from, suffix_parts, expression_parts, expression_cells, part_cells, headed_cells}
+use Rattle.pyd_scope.specs.Cells.{placed_from, bounds_from, suffix_parts, expression_parts, expression_cells, part_cells}
 use Rattle.pyd_scope.specs.Closing.{IsClosed}
-use Rattle.pyd_scope.proofs.Expressions.{bracketed_expressions, suffix_expressions, member_expressions, all_bracketed, part_expressions, expressions_out}
+use Rattle.pyd_scope.proofs.Expressions.{bracketed_expressions, suffix_expressions, member_expressions, all_bracketed, expressions_out}
 use Rattle.pyd_scope.proofs.CellLevels.{cells_out}
 use Rattle.pyd_scope.proofs.CellParts.{level_all}
 use Rattle.pyd_scope.proofs.Leasts.{drop_at}

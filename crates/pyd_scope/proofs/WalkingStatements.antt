@@ -1,5 +1,5 @@
 -- Cells of statements that are put one behind the other are those of the whole.
-use Rattle.std.proofs.Common.{◌≡◌, ◌<◌, ◌≤◌, ℕ, zero, suc, ◌+◌, List, [], ◌∷◌, ◌++◌, length, drop, get_or, refl, sym, ap, ◌∙◌, append_assoc, append-nil, arith}
+use Rattle.std.proofs.Common.{◌≡◌, ◌<◌, ◌≤◌, ℕ, suc, ◌+◌, List, [], ◌∷◌, ◌++◌, length, drop, get_or, sym, ap, ◌∙◌, append_assoc, append-nil, arith}
 use Rattle.std.proofs.lemmas.List.{length-append}
 use Rattle.pyd_tree.specs.declared.expression.Expr.{Expr}
 use Rattle.pyd_tree.specs.declared.statement.Arm.{Arm}
@@ -8,8 +8,8 @@ use Rattle.pyd_scope.specs.declared.cells.Origin.TheVariants.{Header}
 use Rattle.pyd_scope.specs.declared.cells.Suite.{Suite}
 use Rattle.pyd_scope.specs.declared.cells.ExpressionCell.{ExpressionCell}
 use Rattle.pyd_scope.specs.declared.cells.StatementCell.{StatementCell}
-use Rattle.pyd_scope.specs.Numbering.{Point, point, inside}
-use Rattle.pyd_scope.specs.Cells.{Cells, Making, no_cells, past_cells, joined_cells, then_cells, header_cells, headed_by, stmts_from, arms_from, stmt_cells, arm_cells, inner_cells, expression_cells, end_of, added}
+use Rattle.pyd_scope.specs.Numbering.{point, inside}
+use Rattle.pyd_scope.specs.Cells.{Cells, Making, no_cells, past_cells, joined_cells, then_cells, header_cells, stmts_from, arms_from, stmt_cells, arm_cells, inner_cells, expression_cells, end_of, added}
 use Rattle.pyd_scope.specs.Closing.{IsClosedStmt}
 use Rattle.pyd_scope.proofs.StatementLevels.{stmt_out}
 use Rattle.pyd_scope.proofs.Leasts.{drop_at}

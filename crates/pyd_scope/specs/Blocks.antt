@@ -3,7 +3,6 @@ use Rattle.std.specs.Prelude.{ℕ, List, slice_get, Option, Some, None, option_a
 use Rattle.std.specs.List.{filter_map}
 use Rattle.pyd_tree.specs.declared.statement.Block.{Block, out-Block}
 use Rattle.pyd_tree.specs.declared.statement.Stmt.{Stmt}
-use Rattle.pyd_tree.specs.declared.file.Func.{Func}
 use Rattle.pyd_tree.specs.declared.file.Item.{Item}
 use Rattle.pyd_tree.specs.declared.file.Item.TheVariants as item
 

@@ -1,5 +1,5 @@
 -- Where the statements and expressions stand of which the cells of a routine tell.
-use Rattle.std.specs.Prelude.{ℕ, List, drop, slice_get, Option, Some, None, option_map, option_and_then}
+use Rattle.std.specs.Prelude.{ℕ, List, drop, slice_get, Option, Some, option_map, option_and_then}
 use Rattle.pyd_tree.specs.declared.expression.Expr.{Expr}
 use Rattle.pyd_tree.specs.declared.expression.Suffix.{Suffix}
 use Rattle.pyd_tree.specs.declared.statement.Stmt.{Stmt}

@@ -9,7 +9,7 @@ use Rattle.pyd_tree.specs.declared.statement.What.{What, roll-What}
 use Rattle.pyd_tree.specs.declared.statement.What.TheOpen.{What-F, Arm-F, Block-F, Stmt-F}
 use Rattle.pyd_tree.specs.declared.statement.What.TheFolds.{map-What, map-Arm, map-Block, map-Stmt}
 use Rattle.pyd_tree.specs.declared.statement.Arm.{Arm, roll-Arm, fold-Arm}
-use Rattle.pyd_tree.specs.declared.statement.Block.{Block, out-Block, roll-Block, fold-Block}
+use Rattle.pyd_tree.specs.declared.statement.Block.{Block, out-Block, roll-Block}
 use Rattle.pyd_tree.specs.declared.statement.Stmt.{Stmt, roll-Stmt, fold-Stmt}
 use Rattle.pyd_tree.specs.declared.file.File.{File}
 use Rattle.pyd_tree.specs.declared.file.Func.{Func}

@@ -6,7 +6,7 @@ use Rattle.pyd_tree.specs.declared.expression.Suffix.{Suffix, out-Suffix}
 use Rattle.pyd_tree.specs.declared.statement.What.{What, out-What}
 use Rattle.pyd_tree.specs.declared.statement.What.TheOpen.{What-F}
 use Rattle.pyd_tree.specs.declared.statement.Arm.{Arm, out-Arm}
-use Rattle.pyd_tree.specs.declared.statement.Block.{Block, out-Block}
+use Rattle.pyd_tree.specs.declared.statement.Block.{Block}
 use Rattle.pyd_tree.specs.declared.statement.Stmt.{Stmt}
 
 -- the parts of an expression outside brackets, in text order

@@ -18,7 +18,6 @@ impl Program {
     /// What a name stands for in a routine, the module being routine 0: a local, else a constant, a
     /// function, an imported name, a builtin, a module variable, or nothing. Takes no memory.
     pub fn resolve(&self, routine: u32, name: &Text) -> Use<'_>
-        requires { routine < length self.now.routines }
         ensures { spec.Resolves self.now routine name.now result }
     {
         match self.known(routine, name) {

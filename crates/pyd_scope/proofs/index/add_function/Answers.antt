@@ -1,5 +1,4 @@
 use Rattle.std.proofs.Common.{[], ◌∷◌, ◌++◌, List, map, ap, ◌∙◌}
-use Rattle.pyd_tree.specs.declared.statement.Stmt.{Stmt}
 use Rattle.pyd_scope.specs.declared.cells.Columns.{Columns}
 use Rattle.pyd_scope.specs.declared.cells.Suite.TheVariants.{Body}
 use Rattle.pyd_scope.specs.Cells.{Cells, cells_of, added, stmts_from, stmt_cells, body_cells}

@@ -2,7 +2,7 @@ use Rattle.std.proofs.Common.{[], ◌∷◌, ◌++◌, List, Bor, map, ap, ◌�
 use Rattle.pyd_tree.specs.declared.statement.Stmt.{Stmt}
 use Rattle.pyd_tree.specs.declared.file.Func.{Func}
 use Rattle.pyd_scope.specs.declared.cells.Columns.{Columns}
-use Rattle.pyd_scope.specs.Cells.{Cells, cells_of, body_cells}
+use Rattle.pyd_scope.specs.Cells.{cells_of, body_cells}
 use Rattle.pyd_scope.specs.Indexing.{function_cells}
 use Rattle.pyd_scope.proofs.Indexes.{map-twice}
 use Rattle.pyd_scope.proofs.index.routines.Goals as goal

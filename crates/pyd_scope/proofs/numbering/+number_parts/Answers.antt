@@ -1,4 +1,4 @@
-use Rattle.std.proofs.Common.{◌≡◌, ◌<◌, ◌+◌, ◌*◌, ◌++◌, List, length, refl, ap, sym, ◌∙◌, arith}
+use Rattle.std.proofs.Common.{◌≡◌, ◌++◌, List, length, refl, ap, sym, ◌∙◌, arith}
 use Rattle.pyd_tree.specs.declared.expression.Suffix.{Suffix}
 use Rattle.pyd_scope.specs.declared.cells.Origin.TheVariants.{Part}
 use Rattle.pyd_scope.specs.Parting.{direct_of}

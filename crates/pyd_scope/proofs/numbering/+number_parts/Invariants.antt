@@ -1,5 +1,5 @@
 -- What was put at the end, and then what is left, is all that is to be put there.
-use Rattle.std.proofs.Common.{◌≡◌, ℕ, ◌+◌, ◌*◌, ◌++◌, length, drop}
+use Rattle.std.proofs.Common.{◌≡◌, ◌+◌, ◌*◌, ◌++◌, length, drop}
 use Rattle.std.specs.Option.{option_copied}
 use Rattle.pyd_scope.specs.declared.cells.Origin.TheVariants.{Part}
 use Rattle.pyd_scope.specs.Numbering.{expressions}

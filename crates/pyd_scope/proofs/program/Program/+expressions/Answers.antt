@@ -1,4 +1,4 @@
-use Rattle.std.proofs.Common.{◌<◌, sym, ◌+◌, ◌*◌, ◌∙◌, arith}
+use Rattle.std.proofs.Common.{◌<◌, sym, ◌∙◌, arith}
 use Rattle.pyd_scope.specs.declared.cells.Origin.TheVariants.{Header, Part, Low, High}
 use Rattle.pyd_scope.proofs.Looking.{no_expression, found_origin, found_earlier}
 use Rattle.pyd_scope.proofs.program.Program.+expressions.Goals as goal

@@ -1,5 +1,5 @@
 -- What an expression is a part of has a lower number.
-use Rattle.std.proofs.Common.{ℕ, ◌+◌, ◌*◌}
+use Rattle.std.proofs.Common.{◌+◌, ◌*◌}
 use Rattle.pyd_scope.proofs.program.Program.+expressions.Given as goal
 
 abbrev pub decreases-expression : goal.decreases-expression

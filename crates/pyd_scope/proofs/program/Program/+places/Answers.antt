@@ -1,6 +1,6 @@
-use Rattle.std.proofs.Common.{◌<◌, sym, Some, None, ◌+◌, ◌*◌, arith}
+use Rattle.std.proofs.Common.{sym, Some, None, arith}
 use Rattle.pyd_scope.proofs.Looking.{no_statement, found_entry, found_behind, found_later}
-use Rattle.pyd_scope.proofs.Measures.{block_measure, block_less}
+use Rattle.pyd_scope.proofs.Measures.{block_less}
 use Rattle.pyd_scope.proofs.program.Program.+places.Goals as goal
 
 pub place-block_behind-requires : goal.place-block_behind-requires

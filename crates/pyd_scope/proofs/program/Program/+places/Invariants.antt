@@ -1,5 +1,5 @@
 -- The statement whose suite a statement is in has a lower number.
-use Rattle.std.proofs.Common.{ℕ, ◌+◌, ◌*◌}
+use Rattle.std.proofs.Common.{◌+◌, ◌*◌}
 use Rattle.pyd_scope.proofs.Measures.{block_measure}
 use Rattle.pyd_scope.proofs.program.Program.+places.Given as goal
 
