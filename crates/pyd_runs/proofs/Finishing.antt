@@ -144,6 +144,7 @@ graph_driven p g k ran head effect h =
       supplied = h.supplied;
       listed = subst (λ (known : ℕ → Bool). IsOrdered known g.next g.chain) (sym over) h.listed;
       below = subst (λ (known : ℕ → Bool). LieBelow known g.next) (sym over) h.below;
+      slots = h.slots;
       ordered = h.ordered;
       apart = h.apart;
       past = λ n d below. given_same p g k ran _ (h.past n d below);

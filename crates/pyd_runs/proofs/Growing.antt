@@ -14,6 +14,7 @@ use Rattle.pyd_ir.specs.Ports.{Ports, no_ports}
 use Rattle.pyd_translate.specs.declared.piece.Piece.{Piece}
 use Rattle.pyd_translate.specs.Naming.{Numbers}
 use Rattle.pyd_translate.specs.Walk.{give, walk}
+use Rattle.pyd_translate.specs.SlotPorts.{HavePorts, no_numbers}
 use Rattle.pyd_translate.specs.Supplied.{AreSupplied}
 use Rattle.pyd_refine.specs.Laws.{IsNew, IsReplaced}
 use Rattle.pyd_refine.specs.Ordering.{IsOrdered, and_nodes}
@@ -66,6 +67,7 @@ pub record IsGrowing (p : Plan) (g : Graph) (c : Node) (before after : List Node
   pub new : IsNew (named (arguments c.work)) g.next piece
   pub supplied : AreSupplied p.file (limits_of p) piece.next
       (before ++ replaced_by c.id piece after) g.given
+  pub slots : HavePorts no_numbers (before ++ replaced_by c.id piece after)
 
 -- numbers of a list that is apart
 fresh_before : (before : List Node) (c : Node) (after : List Node)
@@ -377,6 +379,7 @@ module _ (p : Plan) (g : Graph) (c : Node) (before after : List Node) (piece : P
             m.replaced.order;
         below = λ k is. (let low = sound.below k (sym (over_now k) ∙ is) in
             let grown = m.new.grown in omega (arith, low, grown));
+        slots = m.slots;
         ordered = sound.ordered;
         apart = All-weaker (Contains g.past) (λ (x : Node). IsFresh x.id list)
             (λ x at. fresh_now x.id (past_below x at) (past_fresh p g x sound at))

@@ -25,7 +25,7 @@ use Rattle.pyd_runs.proofs.Leaves.{leaf_ok}
 use Rattle.pyd_runs.proofs.Redirected.{node_left}
 
 -- what means something is a leaf
-meaning_leaf : (file : File) (limits : Limits) (given : Given) (line depth : ℕ) (w : Work)
+pub meaning_leaf : (file : File) (limits : Limits) (given : Given) (line depth : ℕ) (w : Work)
     (e : Evaluation Value) → work_meaning file limits given line depth w ≡ Some e
     → is_composite w ≡ false
 meaning_leaf file limits given line depth (Op op args) e is = refl

@@ -16,7 +16,9 @@ use Rattle.pyd_ir.specs.Inputs.{Given, has_inputs, leaf_meaning}
 use Rattle.pyd_ir.specs.Ports.{Ports, ports_of}
 use Rattle.pyd_translate.specs.Naming.{Numbers}
 use Rattle.pyd_translate.specs.Walk.{give, walk}
+use Rattle.pyd_translate.specs.SlotPorts.{HavePorts, no_numbers}
 use Rattle.pyd_translate.specs.Supplied.{AreSupplied, WhereGiven}
+use Rattle.pyd_translate.proofs.SlotPorts.{leaf_ports}
 use Rattle.pyd_refine.specs.Ordering.{IsOrdered, and_one}
 use Rattle.pyd_runs.specs.Plans.{Plan, limits_of}
 use Rattle.pyd_runs.specs.Graphs.{Graph, nodes, end_at}
@@ -29,6 +31,7 @@ use Rattle.pyd_runs.proofs.Seeing.{known_fresh}
 use Rattle.pyd_runs.proofs.Within.{look_leaf, leaf_look, leaf_within, some_under}
 use Rattle.pyd_runs.proofs.Knowing.{present, past_fresh}
 use Rattle.pyd_runs.proofs.Leaves.{value_inputs, leaf_ok, walk_ok}
+use Rattle.pyd_runs.proofs.Leading.{meaning_leaf}
 
 -- the head of the chain gives a value
 pub record IsHead (p : Plan) (g : Graph) (n : Node) (rest : List Node) (e : Evaluation Value)
@@ -81,6 +84,13 @@ module _ (p : Plan) (g : Graph) (n : Node) (rest : List Node) (e : Evaluation Va
   -- the chain is in order
   pub chain_order : IsOrdered (is_over g) g.next (n ∷ rest)
   chain_order = subst (IsOrdered (is_over g) g.next) head.chain sound.listed
+
+  -- no slot port that the others name is the head's, which is a leaf
+  rest_ports : HavePorts no_numbers rest
+  rest_ports =
+      leaf_ports no_numbers n rest
+      (meaning_leaf p.file (limits_of p) g.given n.line n.depth n.work e head.meant)
+      (subst (HavePorts no_numbers) head.chain sound.slots)
 
   -- the head stands in it
   pub head_there : Contains g.chain n
@@ -225,6 +235,7 @@ module _ (p : Plan) (g : Graph) (n : Node) (rest : List Node) (e : Evaluation Va
         supplied = λ none. now_supplied;
         listed = subst (λ (known : Numbers). IsOrdered known g.next rest) (sym same) chain_order.3;
         below = λ k is. below_now k (sym (over k) ∙ is);
+        slots = rest_ports;
         ordered = ordered;
         apart = apart;
         past = given;

@@ -15,6 +15,7 @@ use Rattle.pyd_ir.specs.Inputs.{Given, value_of, has_value}
 use Rattle.pyd_ir.specs.Ports.{Ports}
 use Rattle.pyd_translate.specs.declared.piece.Piece.{Piece}
 use Rattle.pyd_translate.specs.Walk.{walk}
+use Rattle.pyd_translate.specs.SlotPorts.{HavePorts, no_numbers}
 use Rattle.pyd_translate.specs.Supplied.{AreSupplied}
 use Rattle.pyd_refine.specs.Ordering.{IsOrdered, LieBelow, and_nodes}
 use Rattle.pyd_refine.specs.Readiness.{Yields, control_value, value_if_there}
@@ -24,6 +25,7 @@ use Rattle.pyd_refine.proofs.Redirecting.{found}
 use Rattle.pyd_refine.proofs.Refining.{refines}
 use Rattle.pyd_refine.proofs.Newness.{piece-new}
 use Rattle.pyd_refine.proofs.Needs.{ready}
+use Rattle.pyd_refine.proofs.SlotPorts.{refined-ports}
 use Rattle.pyd_refine.proofs.Supply.{supplies}
 use Rattle.pyd_runs.specs.Plans.{Plan, limits_of}
 use Rattle.pyd_runs.specs.Graphs.{Graph, nodes, end_at}
@@ -151,6 +153,8 @@ module _ (p : Plan) (g : Graph) (d : Desk) (lost : ℕ → Bool) (before : List 
             named_below (among_named (arguments c.work));
         supplied = supplies p.file (limits_of p) (is_over g) g.next g.given before c after
             chosen sound.below order supplied there_ready;
+        slots = refined-ports p.file (limits_of p) (is_over g) g.next no_numbers before c after
+            chosen sound.below order (subst (HavePorts no_numbers) split sound.slots);
       }
     where
       among : Contains (nodes g) c

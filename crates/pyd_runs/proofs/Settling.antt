@@ -417,6 +417,7 @@ fault_keeps p s n rest e f sound goes chain meant gave =
         supplied = λ none. absurd (cc (none));
         listed = sg.listed;
         below = sg.below;
+        slots = sg.slots;
         ordered = sg.ordered;
         apart = sg.apart;
         past = All-weaker (HasGiven p g) (HasGiven p (faulted g e.lines f))

@@ -23,6 +23,7 @@ use Rattle.pyd_translate.proofs.LawsMatch.{script_law}
 use Rattle.pyd_translate.proofs.RestOrder.{block_order}
 use Rattle.pyd_translate.proofs.SuppliedRests.{block_supply}
 use Rattle.pyd_translate.proofs.Slots.{slots_unbound}
+use Rattle.pyd_translate.proofs.SlotPorts.{script_ports}
 use Rattle.pyd_refine.specs.Ordering.{IsOrdered, and_one}
 use Rattle.pyd_runs.specs.Plans.{Plan, limits_of, meaning}
 use Rattle.pyd_runs.specs.Graphs.{module_piece, first_graph}
@@ -115,6 +116,7 @@ graph_start p =
           (slots_unbound (module_variables p.file) 0 nothing_given);
       listed = listed;
       below = λ m is. absurd (let z = none_over (stands m piece.nodes) in cc (z, is));
+      slots = script_ports p.file;
       ordered = tt;
       apart = All-nil (λ (n : Node). IsFresh n.id piece.nodes);
       past = All-nil (HasGiven p g);

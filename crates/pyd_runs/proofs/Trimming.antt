@@ -105,6 +105,7 @@ graph_sound p g k node sg =
           (same_over k g) (less_over k g)
           (λ n at names. node.unreached (by_chain n k at names)) sg.listed;
       below = λ m over. sg.below m (less_over k g m over);
+      slots = sg.slots;
       ordered = ordered_without k g.past sg.ordered;
       apart = All-filter test (λ (n : Node). IsFresh n.id g.chain) g.past sg.apart;
       past = All-weaker (HasGiven p g) (HasGiven p (trimmed k g))

@@ -7,11 +7,7 @@ use Rattle.pyd_board.specs.declared.event.Act.{Act}
 use Rattle.pyd_board.specs.declared.event.Act.TheVariants.{Place, Claim, Finish, Drop, Refine, Settle, Lose, Trim}
 use Rattle.pyd_board.specs.declared.event.Event.{Event}
 use Rattle.pyd_board.specs.declared.setup.Loss.{Loss}
-use Rattle.pyd_value.specs.declared.fault.Kind.{Kind}
-use Rattle.pyd_ir.specs.declared.arg.Arg.TheVariants.{Slot}
-use Rattle.pyd_ir.specs.declared.arg.Ref.{Ref}
 use Rattle.pyd_ir.specs.declared.node.Node.{Node}
-use Rattle.pyd_ir.specs.declared.work.Work.TheVariants.{Read}
 use Rattle.pyd_lineage.specs.Lineage.{Reaches, is_among}
 use Rattle.pyd_runs.specs.Plans.{Plan, meaning}
 use Rattle.pyd_runs.specs.Graphs.{Graph}
@@ -142,26 +138,14 @@ IsForward (Settle k) = Unit {0}
 IsForward (Lose machine) = Unit {0}
 IsForward (Trim k) = ⊥
 
--- the head of the chain reads a slot that has no value
-pub record HeadLacks (s : State) : Type 0 where
-  pub head : Node
-  pub rest : List Node
-  pub at : Ref
-  pub kind : Kind
-  pub chain : s.graph.chain ≡ head ∷ rest
-  pub reads : head.work ≡ Read (Slot at) kind
-  pub none : s.graph.given at.node at.port ≡ None
+-- a state goes on: such an event may come next
+abbrev pub GoesOn : Plan → State → Type 0
+GoesOn p s = (e : Event) × Enabled p s e × IsForward e.act
 
--- a sound state in which the run hasn't ended goes on, unless its head reads such a slot
-abbrev pub GoLaw : Type 0
-GoLaw = (p : Plan) (s : State) → IsRunnable p → IsSound p s → s.graph.end ≡ None
-    → ((e : Event) × Enabled p s e × IsForward e.act) ⊎ HeadLacks s
-
--- a run that hasn't ended can go on
+-- a sound state in which the run hasn't ended goes on
 abbrev pub ProgressLaw : Type 0
-ProgressLaw = (p : Plan) (es : List Event) → IsRunnable p → IsLegal p es
-    → (replay p es).graph.end ≡ None
-    → (e : Event) × Enabled p (replay p es) e × IsForward e.act
+ProgressLaw = (p : Plan) (s : State) → IsRunnable p → IsSound p s → s.graph.end ≡ None
+    → GoesOn p s
 
 -- an event settles a node
 abbrev pub settles : ℕ → Act → Bool

@@ -1,6 +1,6 @@
 -- What a run is, and what is promised of it.
 -- A run is a list of events, each of which may come in its turn; the state after it follows from the list alone.
-use Rattle.std.specs.Prelude.{◌≡◌, ◌≤◌, ℕ, List, ◌∷◌, ◌++◌, Some}
+use Rattle.std.specs.Prelude.{◌≡◌, ◌≤◌, ℕ, List, ◌∷◌, ◌++◌, None, Some}
 use Rattle.std.specs.List.{Contains, count_by}
 use Rattle.pyd_value.specs.declared.fault.End.{End}
 use Rattle.pyd_board.specs.declared.event.Act.TheVariants.{Claim, Lose}
@@ -8,7 +8,7 @@ use Rattle.pyd_board.specs.declared.event.Event.{Event}
 use Rattle.pyd_runs.specs.Plans.{Plan, meaning}
 use Rattle.pyd_runs.specs.Replay.{IsLegal, replay}
 use Rattle.pyd_runs.specs.Sound.{IsSound, IsWhole}
-use Rattle.pyd_runs.specs.Laws.{IsRunnable, AreAtPlaces, settles}
+use Rattle.pyd_runs.specs.Laws.{IsRunnable, AreAtPlaces, GoesOn, settles}
 
 -- what a script and a run over machines that are lost have to do with one another
 pub record IsPromised (p : Plan) (es : List Event) : Type 0 where
@@ -26,6 +26,8 @@ pub record IsPromised (p : Plan) (es : List Event) : Type 0 where
       → (e : Event) × Contains between e × (e.act ≡ Lose m)
   -- losses come exactly at the places of the script
   pub losses : AreAtPlaces p es
+  -- where the run hasn't ended an event may come that is neither a Trim nor a Drop
+  pub goes_on : (replay p es).graph.end ≡ None → GoesOn p (replay p es)
   -- what is recorded, placed and claimed is right
   pub sound : IsSound p (replay p es)
 

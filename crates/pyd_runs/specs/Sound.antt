@@ -16,6 +16,7 @@ use Rattle.pyd_ir.specs.Inputs.{Given, has_inputs, task_of, look, leaf_meaning}
 use Rattle.pyd_ir.specs.Meaning.{ran_of}
 use Rattle.pyd_ir.specs.Ports.{Ports, no_ports, ports_of}
 use Rattle.pyd_translate.specs.Walk.{walk, give}
+use Rattle.pyd_translate.specs.SlotPorts.{HavePorts, no_numbers}
 use Rattle.pyd_translate.specs.Supplied.{AreSupplied}
 use Rattle.pyd_refine.specs.Ordering.{IsOrdered, LieBelow}
 use Rattle.pyd_runs.specs.Plans.{Plan, IsSeatOf, limits_of, meaning}
@@ -117,6 +118,8 @@ pub record IsGraphSound (p : Plan) (g : Graph) : Type 0 where
   -- numbers differ and are below the next one, and each argument names a settled node or an earlier one
   pub listed : IsOrdered (is_over g) g.next g.chain
   pub below : LieBelow (is_over g) g.next
+  -- each slot port that a node of the chain names is of an `if` or a loop that stands before it there
+  pub slots : HavePorts no_numbers g.chain
   pub ordered : AreOrdered g.past
   pub apart : All (λ n. IsFresh n.id g.chain) g.past
   pub past : All (HasGiven p g) g.past

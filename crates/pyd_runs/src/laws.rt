@@ -1,5 +1,5 @@
 //! The laws of runs: contracts of functions with empty bodies.
-ghost use Rattle.pyd_runs.specs.Laws.{AgainLaw, BarLaw, ClaimLaw, DropLaw, EndLaw, EventLaw, FinishLaw, GoLaw, HoldLaw, LoseLaw, LossLaw, NeedLaw, OnceLaw, PlaceLaw, PrefixLaw, ReachLaw, RefineLaw, RunLaw, SettleLaw, SightLaw, StepsLaw, TrimLaw};
+ghost use Rattle.pyd_runs.specs.Laws.{AgainLaw, BarLaw, ClaimLaw, DropLaw, EndLaw, EventLaw, FinishLaw, HoldLaw, LoseLaw, LossLaw, NeedLaw, OnceLaw, PlaceLaw, PrefixLaw, ProgressLaw, ReachLaw, RefineLaw, RunLaw, SettleLaw, SightLaw, StepsLaw, TrimLaw};
 ghost use Rattle.pyd_runs.specs.Promise.{Promise};
 
 /// While a run goes on, a loss that is due bars any other event.
@@ -92,10 +92,9 @@ pub fn again_law()
     ensures { AgainLaw }
 {}
 
-/// A sound state in which the run hasn't ended has an event that is neither a Trim nor a Drop, unless its
-/// head reads a slot that has no value.
-pub fn go_law()
-    ensures { GoLaw }
+/// A sound state in which the run hasn't ended has an event that is neither a Trim nor a Drop.
+pub fn progress_law()
+    ensures { ProgressLaw }
 {}
 
 /// Where only the head may be refined, a legal run settles and refines at most 4 nodes for each step of the
@@ -105,7 +104,8 @@ pub fn steps_law()
 {}
 
 /// What is promised of every legal run: its lines are the first of the script's, and at its end all of them;
-/// no node is settled twice, or claimed again without a loss; and losses come at their places.
+/// no node is settled twice, or claimed again without a loss; losses come at their places; and where it
+/// hasn't ended an event on the way to the end may come.
 pub fn promise_law()
     ensures { Promise }
 {}

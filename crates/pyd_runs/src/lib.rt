@@ -4,7 +4,7 @@
 mod laws;
 
 pub use laws::{
-    again_law, bar_law, claim_law, drop_law, end_law, event_law, finish_law, go_law, hold_law,
-    lose_law, loss_law, need_law, once_law, place_law, prefix_law, promise_law, reach_law,
+    again_law, bar_law, claim_law, drop_law, end_law, event_law, finish_law, hold_law, lose_law,
+    loss_law, need_law, once_law, place_law, prefix_law, progress_law, promise_law, reach_law,
     refine_law, run_law, settle_law, sight_law, steps_law, trim_law,
 };
