@@ -10,9 +10,10 @@ use crate::quoting::write_quoted;
 use itoa::Buffer;
 use pyd_value::{NoMemory, Value};
 
-/// Writes the `repr` of a value.
+/// Writes the `repr` of a value behind what is there, however long it is (docs/LANGUAGE.md, "Texts
+/// of values").
 #[cycle(write_repr)]
-pub(crate) fn write_repr(out: &mut String, a: &Value) -> Result<(), NoMemory>
+pub fn write_repr(out: &mut String, a: &Value) -> Result<(), NoMemory>
     ensures { OnOk result (Appends out.old out.new (repr a.now)) }
 {
     match a {
