@@ -32,3 +32,5 @@ pub mod Progress
 pub mod Stepping
 pub mod Promising
 pub mod Lineage
+pub mod Small
+pub mod ShortRuns

@@ -11,3 +11,4 @@ pub mod Replay
 pub mod Sound
 pub mod Laws
 pub mod Promise
+pub mod Rows
