@@ -1,7 +1,5 @@
 //! Small trees, built by hand, and which rule they break by which line.
 
-mod numbers;
-
 use crate::refusals::refusal;
 use crate::{Refusal, check};
 use pyd_tree::{Block, Expr, File, Func, Item, Stmt, What};

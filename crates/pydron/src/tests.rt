@@ -2,6 +2,7 @@
 ghost use Rattle.std.specs.Prelude.{◌≡◌, ◌≤◌, ◌-◌, ◌^◌, Contains, IfOk};
 
 mod calls;
+mod numbers;
 mod rows;
 mod scripts;
 mod streams;
