@@ -73,3 +73,15 @@ pub mod LawsSupplied
 pub mod SuppliedBindings
 pub mod SuppliedStatements
 pub mod SuppliedRests
+pub mod Onto
+pub mod Parted
+pub mod Arms
+pub mod SlotPlaces
+pub mod Operands
+pub mod CountedForms
+pub mod BracketForms
+pub mod RoutineParts
+pub mod Links
+pub mod Members
+pub mod SideForms
+pub mod Pieces

@@ -3,6 +3,7 @@ pub mod Making
 pub mod Slots
 pub mod Expressions
 pub mod Sides
+pub mod Drafts
 pub mod Statements
 pub mod Rests
 pub mod Starts

@@ -1,10 +1,22 @@
 //! Statements and expressions as nodes of the graph, and what the nodes of a list do.
 #![tactic(auto)]
 
+mod arguments;
 mod at;
+mod brackets;
+mod calls;
+mod choices;
+mod context;
+mod counting;
+mod draft;
+mod expressions;
 mod laws;
+mod names;
+mod numbers;
 mod piece;
 mod rows;
+mod sides;
+mod unfold;
 
 pub use at::{At, Start};
 pub use laws::{
@@ -15,3 +27,4 @@ pub use laws::{
 };
 pub use piece::Piece;
 pub use rows::{and_row, chain_row, comparison_row, conditional_row, slice_row};
+pub use unfold::unfold_side;

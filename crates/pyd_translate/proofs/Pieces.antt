@@ -1,0 +1,29 @@
+-- What was made onto no node is a piece.
+use Rattle.std.proofs.Common.{◌≡◌, ℕ, List, [], sym, ap, ◌∙◌, Option}
+use Rattle.pyd_ir.specs.declared.arg.Arg.{Arg}
+use Rattle.pyd_ir.specs.declared.node.Node.{Node}
+use Rattle.pyd_translate.specs.Making as making
+use Rattle.pyd_translate.specs.Statements.{done, context}
+use Rattle.pyd_tree.specs.declared.file.File.{File}
+use Rattle.pyd_ir.specs.declared.work.Side.{Side}
+use Rattle.pyd_translate.specs.declared.at.At.{At}
+use Rattle.pyd_translate.specs.Sides.{side_unfolds}
+use Rattle.pyd_translate.specs.Starts.{piece_of, value_or_unbound, value_piece, side_piece}
+use Rattle.pyd_translate.specs.Drafts.{onto}
+
+-- a value that was made, or that a Stop left out
+pub value_made : (env : List Arg) (p : making.Piece Arg) (nodes : List Node) (got : Option Arg) (next : ℕ)
+    → onto [] p ≡ (nodes, got, next) → piece_of nodes (done env (value_or_unbound got)) next ≡ value_piece env p
+unfolding onto
+value_made env p nodes got next e =
+    λ i. piece_of (sym (ap (λ t. t.0) e) i) (done env (value_or_unbound (sym (ap (λ t. t.1) e) i))) (sym (ap (λ t. t.2) e) i)
+
+-- a side that was made with a copy of the slots
+pub side_done : (file : File) (a : At) (s : Side) (env slots : List Arg) (line ids next : ℕ) (start nodes : List Node) (got : Option Arg) (v : Arg)
+    → slots ≡ env → start ≡ [] → v ≡ value_or_unbound got
+    → onto start (side_unfolds file s (context a.routine a.depth line slots) ids) ≡ (nodes, got, next)
+    → piece_of nodes (done slots v) next ≡ side_piece file a s env line ids
+side_done file a s env slots line ids next start nodes got v same none is h =
+    (λ i. piece_of nodes (done (same i) (is i)) next)
+    ∙ value_made env (side_unfolds file s (context a.routine a.depth line env) ids) nodes got next
+    ((λ i. onto (sym none i) (side_unfolds file s (context a.routine a.depth line (sym same i)) ids)) ∙ h)
