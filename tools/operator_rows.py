@@ -1,5 +1,5 @@
 #!/usr/bin/env python3
-"""Writes crates/pyd_ops/src/tests/rows.rt: operations, and what CPython answers.
+"""Writes crates/pyd_value_tests/src/ops/rows.rt and the files of rows/: operations, and what CPython answers.
 
 Run by hand at the top of the repository: python3 tools/operator_rows.py
 Every operation is asked of every pair of operands. The answers are CPython's; those that the profile
@@ -139,16 +139,35 @@ def entry(args, answered):
     return ",".join(map(at, args)) + ":" + (answered if isinstance(answered, Mark) else at(answered))
 
 
-def lines():
-    """A line for an operation and each first operand."""
+def lines(names):
+    """A line for each of these operations and each first operand."""
     rows = {}
     for name, args, answered in asked:
-        rows.setdefault((name, at(args[0]) if len(args) > 1 else ""), []).append(entry(args, answered))
+        if name in names:
+            rows.setdefault((name, at(args[0]) if len(args) > 1 else ""), []).append(entry(args, answered))
     return [" ".join([name] + entries) for (name, _), entries in rows.items()]
 
 
-with open("crates/pyd_ops/src/tests/rows.rt", "w") as file:
-    file.write(f"""//! Operations, and what CPython answers. Written by tools/operator_rows.py.
+TOPICS = [("arithmetic", "Signs, arithmetic, shifts and bits", [name for name, _ in UNARY + BINARY]),
+          ("calls", "Calls of builtin functions", [name for name, _ in CALLS]),
+          ("comparisons", "Comparisons and memberships", [name for name, _ in COMPARE]),
+          ("parts", "Indexing, slices and items", ["Index", "Slice", "Items", "ItemAt"])]
+FOLDER = "crates/pyd_value_tests/src/ops/"
+
+for topic, title, names in TOPICS:
+    with open(f"{FOLDER}rows/{topic}.rt", "w") as file:
+        file.write(f"""//! {title}, and what CPython answers. Written by tools/operator_rows.py.
+
+/// An operation, and then the places of its operands with the place of its value or the letter of its
+/// fault, over and over.
+pub(crate) const ANSWERS: &str = "\\
+{chr(10).join(lines(names))}
+";
+""")
+with open(f"{FOLDER}rows.rt", "w") as file:
+    file.write(f"""//! The operands of the rows, and the rows by topic. Written by tools/operator_rows.py.
+
+{chr(10).join(f"mod {topic};" for topic, _, _ in TOPICS)}
 
 /// Values, each of which has a place, counted from 0: an integer, None, False or True, a text behind a
 /// quote, or a tuple as the places of its members behind a bracket.
@@ -159,9 +178,8 @@ pub(crate) const VALUES: &str = "\\
 /// How many answers there are.
 pub(crate) const ASKED: usize = {len(asked)};
 
-/// An operation, and then the places of its operands with the place of its value or the letter of its
-/// fault, over and over.
-pub(crate) const ANSWERS: &str = "\\
-{chr(10).join(lines())}
-";
+/// The answers, topic by topic.
+pub(crate) const TOPICS: [&str; {len(TOPICS)}] = [
+{chr(10).join(f"    {topic}::ANSWERS," for topic, _, _ in TOPICS)}
+];
 """)

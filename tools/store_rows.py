@@ -1,4 +1,4 @@
-"""Writes crates/pyd_store/src/tests/calls.rt: calls of a store, with what a dict of CPython has then."""
+"""Writes crates/pyd_value_tests/src/store/calls.rt: calls of a store, with what a dict of CPython has then."""
 import random
 
 NODES = (0, 1, 2, 3, 2**32, 2**64 - 1)
@@ -22,7 +22,7 @@ def calls():
         yield "has " + " ".join(str(kept.get(node, "-")) for node in NODES)
 
 
-with open("crates/pyd_store/src/tests/calls.rt", "w") as out:
+with open("crates/pyd_value_tests/src/store/calls.rt", "w") as out:
     out.write("//! Calls of a store, and what it has then. Written by tools/store_rows.py.\n\n")
     out.write("/// The nodes whose outcomes a line `has` gives, `-` marking none.\n")
     out.write(f"pub(crate) const NODES: [u64; {len(NODES)}] = {list(NODES)};\n\n")

@@ -1,7 +1,7 @@
 #!/usr/bin/env python3
-"""Writes the rows of crates/pyd_lex/src/tests/rows.rt: sources, and their tokens by CPython's tokenize.
+"""Writes the rows of crates/pyd_script_tests/src/lex/rows.rt: sources, and their tokens by CPython's tokenize.
 
-Run by hand at the top of the repository: python3 tools/token_rows.py > crates/pyd_lex/src/tests/rows.rt
+Run by hand at the top of the repository: python3 tools/token_rows.py > crates/pyd_script_tests/src/lex/rows.rt
 
 What CPython gives is kept: the kinds, the values, and the places of all tokens that are spelled. INDENT, DEDENT
 and ENDMARKER, which are spelled by nothing here, are put where the next spelled token begins, or at the end.

@@ -1,7 +1,7 @@
 #!/usr/bin/env python3
-"""Writes crates/pyd_value/src/tests/pairs.rt: values, and what CPython says of each pair of them.
+"""Writes crates/pyd_value_tests/src/value/pairs.rt: values, and what CPython says of each pair of them.
 
-Run by hand at the top of the repository: python3 tools/value_pairs.py > crates/pyd_value/src/tests/pairs.rt
+Run by hand at the top of the repository: python3 tools/value_pairs.py > crates/pyd_value_tests/src/value/pairs.rt
 Equality, order and truth are CPython's. Size and nesting are the profile's own (docs/LANGUAGE.md).
 """
 

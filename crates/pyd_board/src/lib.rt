@@ -33,6 +33,3 @@ pub use round_robin::RoundRobin;
 pub use runner::{Answer, Runner};
 pub use seat::{Ticket, Who};
 pub use setup::{Loss, Setup};
-
-#[cfg(test)]
-mod tests;

@@ -21,6 +21,3 @@ mod targets;
 
 pub use file::tree;
 pub use laws::{files_are_scripts, one_file};
-
-#[cfg(test)]
-mod tests;

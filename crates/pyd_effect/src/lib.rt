@@ -8,6 +8,3 @@ mod settling;
 pub use laws::{functional_law, leaf_law, walk_law};
 pub use settled::Settled;
 pub use settling::settle_head;
-
-#[cfg(test)]
-mod tests;

@@ -4,6 +4,3 @@
 mod source;
 
 pub use source::make_source;
-
-#[cfg(test)]
-mod tests;

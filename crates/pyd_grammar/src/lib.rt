@@ -8,6 +8,3 @@ mod parser;
 pub use fault::{ParseFault, ParseStop};
 pub use laws::{an_answer, faults_by_cause, files_are_well_formed, one_answer};
 pub use parser::parse;
-
-#[cfg(test)]
-mod tests;

@@ -24,6 +24,3 @@ pub use laws::{
 };
 pub use node::{Chain, Node, Past};
 pub use work::{Frame, Rest, Side, Work};
-
-#[cfg(test)]
-mod tests;

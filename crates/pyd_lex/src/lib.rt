@@ -29,6 +29,3 @@ pub use scan::tokens;
 pub use text::{name_of, text_of};
 pub use token::{Token, TokenKind};
 pub use word::Word;
-
-#[cfg(test)]
-mod tests;

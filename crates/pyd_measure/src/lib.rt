@@ -17,6 +17,3 @@ pub use found::Measured;
 pub use laws::{a_line, one_line, shallow_files};
 pub use limit::{DEEPEST, constant_is_the_limit};
 pub use measured::measure;
-
-#[cfg(test)]
-mod tests;

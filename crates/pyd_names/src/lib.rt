@@ -25,6 +25,3 @@ pub use module::{
     constant_marks, constants, functions, module_bindings, module_statements, module_uses,
 };
 pub use name_use::{Manner, NameUse, statement_uses, uses};
-
-#[cfg(test)]
-mod tests;

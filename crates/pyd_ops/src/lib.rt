@@ -26,6 +26,3 @@ pub use operators::{binary, unary};
 pub use pyd_value::Builtin;
 pub use ranges::{Span, range_of};
 pub use sequence::{item_at, items};
-
-#[cfg(test)]
-mod tests;

@@ -12,8 +12,6 @@ mod places;
 mod pool;
 mod reach;
 mod rule;
-#[cfg(test)]
-mod tests;
 
 pub use hand::Hand;
 pub use pool::Pool;

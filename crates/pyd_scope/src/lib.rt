@@ -35,6 +35,3 @@ pub use refusal::{CheckStop, Refusal};
 pub use routine::Routine;
 pub use stmts::{Place, Stmts};
 pub use uses::Use;
-
-#[cfg(test)]
-mod tests;

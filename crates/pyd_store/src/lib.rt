@@ -6,6 +6,3 @@ mod store;
 
 pub use laws::a_store_is_a_map;
 pub use store::Store;
-
-#[cfg(test)]
-mod tests;

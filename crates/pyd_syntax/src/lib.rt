@@ -16,6 +16,3 @@ pub use machine::derive;
 pub use step::Step;
 pub use stop::Stop;
 pub use symbol::Symbol;
-
-#[cfg(test)]
-mod tests;

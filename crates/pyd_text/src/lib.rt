@@ -18,6 +18,3 @@ pub use laws::{
 pub use numerals::int_of;
 pub use texts::{line_of, repr_of, str_of};
 pub use writing::write_repr;
-
-#[cfg(test)]
-mod tests;

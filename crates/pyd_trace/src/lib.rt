@@ -12,6 +12,3 @@ pub use laws::{
 };
 pub use read::{TraceStop, read_trace};
 pub use write::trace_text;
-
-#[cfg(test)]
-mod tests;

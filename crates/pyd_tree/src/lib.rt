@@ -13,6 +13,3 @@ pub use file::{File, Func, Item};
 pub use laws::nesting_goes_by_kind;
 pub use pyd_value::{BinOp, CmpOp, UnOp};
 pub use statement::{Arm, Block, Stmt, Targets, What};
-
-#[cfg(test)]
-mod tests;

@@ -10,6 +10,3 @@ mod waiting;
 
 pub use seat::{Seat, TurnLock};
 pub use view::{Stage, Tally, View};
-
-#[cfg(test)]
-mod tests;

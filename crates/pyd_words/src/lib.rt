@@ -14,6 +14,3 @@ pub use fault::{WordsFault, WordsStop};
 pub use laws::{line_is_what_the_command_refuses, losses_are_in_order, plans_are_sound};
 pub use plan::{Mode, Plan};
 pub use read::read_words;
-
-#[cfg(test)]
-mod tests;

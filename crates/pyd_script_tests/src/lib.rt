@@ -1,0 +1,28 @@
+//! Tests of what stands between the bytes of a source and its program.
+#![tactic(auto)]
+
+mod callers;
+#[cfg(test)]
+mod derivation;
+#[cfg(test)]
+mod generated;
+#[cfg(test)]
+mod grammar;
+#[cfg(test)]
+mod lex;
+#[cfg(test)]
+mod measure;
+#[cfg(test)]
+mod names;
+#[cfg(test)]
+mod reading;
+#[cfg(test)]
+mod scope;
+#[cfg(test)]
+mod source;
+#[cfg(test)]
+mod syntax;
+#[cfg(test)]
+mod tree;
+
+pub use callers::{name_at, put_line};
