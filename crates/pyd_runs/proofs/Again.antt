@@ -34,6 +34,7 @@ use Rattle.pyd_runs.proofs.Refined.{refines_so}
 use Rattle.pyd_runs.proofs.Refining.{gone_grown}
 use Rattle.pyd_runs.proofs.Settling.{fresh_less}
 use Rattle.pyd_runs.proofs.Running.{event_keeps, runs_on}
+use Rattle.pyd_runs.proofs.Beginnings.{legal_parts}
 use Rattle.pyd_runs.proofs.Starting.{starts}
 
 -- a machine has the claim of a node
@@ -104,7 +105,7 @@ busy_by s now k m claim stores driver gone_on end (gone is) = gone (gone_on is)
 busy_by s now k m claim stores driver gone_on end (over is) = over (end is)
 
 -- what a Finish changes of the other nodes
-finish_stores : (p : Plan) (s : State) (k machine n : ℕ) (o : Option Held) → n ≢ k
+pub finish_stores : (p : Plan) (s : State) (k machine n : ℕ) (o : Option Held) → n ≢ k
     → (finished_by p s k machine o).desk.stores n ≡ s.desk.stores n
 finish_stores p s k machine n None other = refl
 finish_stores p s k machine n (Some c) other = by_kind (is_run c.job.task)
@@ -118,7 +119,7 @@ finish_stores p s k machine n (Some c) other = by_kind (is_run c.job.task)
         put_else s.desk.stores k
         (Some (record { machine = machine; ran = job_ran p.file (limits_of p) c.job })) n other
 
-finish_driver : (p : Plan) (s : State) (k machine n : ℕ) (o : Option Held) → n ≢ k
+pub finish_driver : (p : Plan) (s : State) (k machine n : ℕ) (o : Option Held) → n ≢ k
     → (finished_by p s k machine o).graph.driver n ≡ s.graph.driver n
 finish_driver p s k machine n None other = refl
 finish_driver p s k machine n (Some c) other = by_kind (is_run c.job.task)
@@ -424,14 +425,6 @@ busy_until p s (e ∷ es) later second k m b n sound busy legal is = elim (loss_
       (event_keeps p s e sound legal.0) (event_busy p s e k m sound legal.0 not busy) legal.1 is in
       (r.0, event_behind e es r.0 r.1, r.2)
 ]
-
--- a run is its first events and those behind
-legal_parts : (p : Plan) (s : State) (xs ys : List Event) → IsLegalFrom p s (xs ++ ys)
-    → IsLegalFrom p s xs × IsLegalFrom p (after p s xs) ys
-unfolding IsLegalFrom after
-legal_parts p s [] ys legal = (tt, legal)
-legal_parts p s (x ∷ xs) ys legal =
-    let r = legal_parts p (happens p s x) xs ys legal.1 in ((legal.0, r.0), r.1)
 
 -- the law
 pub claimed_again : AgainLaw

@@ -49,7 +49,7 @@ pub record Goes (p : Plan) (s : State) : Type 0 where
   pub forward : IsForward act
 
 -- a seat of a machine is a seat
-seat_there : (p : Plan) (machine seat : ℕ) → machine < p.setup.machines
+pub seat_there : (p : Plan) (machine seat : ℕ) → machine < p.setup.machines
     → IsSeatOf p machine seat → IsSeat p seat
 seat_there p machine seat low of =
     let to = of.to in
@@ -58,7 +58,7 @@ seat_there p machine seat low of =
     omega (arith, to, more, fits)
 
 -- the first seat of a machine is one of its seats
-first_of : (p : Plan) (machine : ℕ) → 0 < p.setup.workers → IsSeatOf p machine (first_seat p machine)
+pub first_of : (p : Plan) (machine : ℕ) → 0 < p.setup.workers → IsSeatOf p machine (first_seat p machine)
 first_of p machine workers =
     let more = suc-mul machine p.setup.workers in record {
       from = omega arith;
@@ -151,7 +151,7 @@ port_or r given node port e = by_record (r node port) refl
     by_record None is =
         let v = some_there (given node port) e in inr (v.0, is, v.1)
 
-arg_or : (r given : Given) (a : Arg) (args : List Arg) → IsTrue (has_value given a)
+pub arg_or : (r given : Given) (a : Arg) (args : List Arg) → IsTrue (has_value given a)
     → IsTrue (has_value r a) ⊎ Unrecorded r given (a ∷ args)
 arg_or r given (Known v) args e = inl refl
 arg_or r given (From at) args e = elim (port_or r given at.node at.port e) [
@@ -206,7 +206,7 @@ args_or r given (a ∷ args) e =
     ]
 
 -- the inputs of a leaf are recorded, or one isn't
-inputs_or : (r given : Given) (w : Work) → is_composite w ≡ false → IsTrue (has_inputs given w)
+pub inputs_or : (r given : Given) (w : Work) → is_composite w ≡ false → IsTrue (has_inputs given w)
     → IsTrue (has_inputs r w) ⊎ Unrecorded r given (arguments w)
 inputs_or r given (Op op args) leaf e = args_or r given args e
 inputs_or r given (Read arg kind) leaf e = read_or r given arg e
@@ -221,7 +221,7 @@ inputs_or r given (Pick test first second env) leaf e = absurd (cc (leaf))
 inputs_or r given (Enter func args) leaf e = absurd (cc (leaf))
 
 -- a pure leaf that gave a value has a task where its inputs are there
-pure_task : (file : File) (limits : Limits) (r given : Given) (line depth : ℕ) (w : Work)
+pub pure_task : (file : File) (limits : Limits) (r given : Given) (line depth : ℕ) (w : Work)
     (e : Evaluation Value) (v : Value) → is_pure w ≡ true
     → work_meaning file limits given line depth w ≡ Some e → e.result ≡ Ok v
     → IsTrue (has_inputs r w) → (t : Task) × (task_of r w ≡ Some t)
@@ -307,7 +307,7 @@ module _ (p : Plan) (s : State) (sound : IsSound p s) where
     pub none : records s.graph s.desk.stores z.id ≡ None
 
   -- what is named, has a value and isn't recorded is such a node
-  lacking : (j port : ℕ) (v : Value) → Reached s.graph j → Needed s.graph s.desk.stores j
+  pub lacking : (j port : ℕ) (v : Value) → Reached s.graph j → Needed s.graph s.desk.stores j
       → is_over s.graph j ≡ true → recorded s.graph s.desk.stores j port ≡ None
       → s.graph.given j port ≡ Some v → (z : Node) × (z.id ≡ j) × Lacks z
   lacking j port v reached needed over none gave =
@@ -333,7 +333,7 @@ module _ (p : Plan) (s : State) (sound : IsSound p s) where
           )
 
   -- what has a value isn't in the chain
-  valued_over : (j port : ℕ) (v : Value) → IsTrue (present s.graph j)
+  pub valued_over : (j port : ℕ) (v : Value) → IsTrue (present s.graph j)
       → s.graph.given j port ≡ Some v → is_over s.graph j ≡ true
   valued_over j port v is gave = by_test (stands j s.graph.chain) refl
     where

@@ -1,5 +1,5 @@
 -- A claim is held until its own seat finishes or drops it.
-use Rattle.std.proofs.Common.{◌≡◌, ◌≢◌, ◌==◌, ℕ, Bool, true, false, if◌then◌else◌, Option, None, Some, ◌⊎◌, inl, inr, refl, ap, sym, ◌∙◌, arith}
+use Rattle.std.proofs.Common.{◌≡◌, ◌≢◌, ◌==◌, ℕ, Bool, true, false, if◌then◌else◌, Option, None, Some, inl, inr, refl, ap, sym, ◌∙◌, arith}
 use Rattle.pyd_board.specs.declared.event.Act.{Act}
 use Rattle.pyd_board.specs.declared.event.Act.TheVariants.{Place, Claim, Finish, Drop, Refine, Settle, Lose, Trim}
 use Rattle.pyd_ir.specs.Meaning.{job_ran}
@@ -8,9 +8,9 @@ use Rattle.pyd_runs.specs.Desks.{Held, put_at}
 use Rattle.pyd_runs.specs.Records.{ready}
 use Rattle.pyd_runs.specs.Losses.{held_elsewhere, undone_with}
 use Rattle.pyd_runs.specs.Effects.{State, acted, happens, held_by, finished_by, is_run, kept_by_driver, kept_by_machine}
-use Rattle.pyd_runs.specs.Enabled.{CanAct, Holds, IsLoss}
+use Rattle.pyd_runs.specs.Enabled.{CanAct, Holds}
 use Rattle.pyd_runs.specs.Sound.{IsSound}
-use Rattle.pyd_runs.specs.Laws.{HoldLaw, IsHeld}
+use Rattle.pyd_runs.specs.Claims.{IsHeld, LetsGo, HoldLaw}
 use Rattle.pyd_runs.proofs.Putting.{at_cases, put_else, put_same, same_test, other_test, none_apart}
 use Rattle.pyd_runs.proofs.Dropping.{claims_but, undone_but}
 
@@ -49,12 +49,17 @@ holds_some None seat attempt machine h = absurd h
 holds_some (Some q) seat attempt machine h =
     (q, refl, h.by_seat, h.of_attempt, h.on_machine)
 
--- the seat that holds a claim is the claim's
-holds_seat : (o : Option Held) (seat attempt machine : ℕ) (c : Held)
-    → Holds o seat attempt machine → o ≡ Some c → seat ≡ c.seat
-holds_seat None seat attempt machine c h e = absurd h
-holds_seat (Some q) seat attempt machine c h e =
-    let z : q ≡ c = cc (e) in sym h.by_seat ∙ ap (λ (x : Held). x.seat) z
+-- the seat that holds a claim is the claim's, and so are the attempt and the machine
+pub holds_parts : (o : Option Held) (seat attempt machine : ℕ) (c : Held)
+    → Holds o seat attempt machine → o ≡ Some c
+    → (seat ≡ c.seat) × (attempt ≡ c.attempt) × (machine ≡ c.machine)
+holds_parts None seat attempt machine c h e = absurd h
+holds_parts (Some q) seat attempt machine c h e =
+    let z : q ≡ c = cc (e) in (
+      sym h.by_seat ∙ ap (λ (x : Held). x.seat) z,
+      sym h.of_attempt ∙ ap (λ (x : Held). x.attempt) z,
+      sym h.on_machine ∙ ap (λ (x : Held). x.machine) z,
+    )
 
 -- a machine's claim is undone by its loss
 undone_new : (machine : ℕ) (claim old : Option Held) (c : Held) → claim ≡ Some c
@@ -96,7 +101,7 @@ finish_else p s k machine n (Some c) other = by_kind (is_run c.job.task)
     by_kind false = put_else s.desk.claim k None n other
 
 -- and of what was undone
-finish_undone : (p : Plan) (s : State) (k machine : ℕ) (o : Option Held)
+pub finish_undone : (p : Plan) (s : State) (k machine : ℕ) (o : Option Held)
     → (finished_by p s k machine o).desk.undone ≡ s.desk.undone
 finish_undone p s k machine None = refl
 finish_undone p s k machine (Some c) = by_kind (is_run c.job.task)
@@ -108,9 +113,10 @@ finish_undone p s k machine (Some c) = by_kind (is_run c.job.task)
     by_kind true = refl
     by_kind false = refl
 
--- a claim that stands, where one is dropped by another seat
+-- a claim that stands, where another one is dropped
 dropped_claim : (p : Plan) (s : State) (seat k attempt machine n : ℕ) (c : Held)
-    → IsSound p s → CanAct p s seat (Drop k attempt machine) → seat ≢ c.seat
+    → IsSound p s → CanAct p s seat (Drop k attempt machine)
+    → ((seat ≡ c.seat) → LetsGo n c.attempt (Drop k attempt machine) → ⊥)
     → s.desk.claim n ≡ Some c → claims_but s.desk.claim k machine n ≡ Some c
 dropped_claim p s seat k attempt machine n c h can apart d =
     let new : Option Held = held_elsewhere machine (s.desk.claim k) in
@@ -128,14 +134,16 @@ dropped_claim p s seat k attempt machine n c h can apart d =
                 ∙ elsewhere_kept machine (s.desk.claim k) c here (λ w.
                 let y : s.lost machine ≡ false = ap s.lost (sym w) ∙ lives in
                 absurd (cc (gone, y)))
-            | inr left ↦ absurd
-                (apart (holds_seat (s.desk.claim k) seat attempt machine c left.2 here))
+            | inr left ↦
+                let x = holds_parts (s.desk.claim k) seat attempt machine c left.2 here in
+                absurd (apart x.0 (sym same, x.1))
           ]
     ]
 
--- a claim that a loss undid, where one is dropped by another seat
+-- a claim that a loss undid, where another one is dropped
 dropped_undone : (p : Plan) (s : State) (seat k attempt machine n : ℕ) (c : Held)
-    → IsSound p s → CanAct p s seat (Drop k attempt machine) → seat ≢ c.seat
+    → IsSound p s → CanAct p s seat (Drop k attempt machine)
+    → ((seat ≡ c.seat) → LetsGo n c.attempt (Drop k attempt machine) → ⊥)
     → s.desk.undone n c.attempt ≡ Some c
     → undone_but s.desk.undone k attempt n c.attempt ≡ Some c
 dropped_undone p s seat k attempt machine n c h can apart u =
@@ -144,7 +152,8 @@ dropped_undone p s seat k attempt machine n c h can apart u =
           let here : s.desk.undone k attempt ≡ Some c
           = ap (λ j. s.desk.undone j attempt) (sym same)
           ∙ ap (s.desk.undone n) (sym also) ∙ u in
-          apart (holds_seat (s.desk.undone k attempt) seat attempt machine c undone.1 here)
+          let x = holds_parts (s.desk.undone k attempt) seat attempt machine c undone.1 here in
+          apart x.0 (sym same, sym also)
       | inr left ↦
           let x = holds_some (s.desk.claim k) seat attempt machine left.2 in
           let now = h.attempts.claim k x.0 x.1 in
@@ -154,9 +163,9 @@ dropped_undone p s seat k attempt machine n c h can apart u =
           let at = x.3 in absurd (omega arith)
     ])
 
--- what a seat does keeps another seat's claims, and a loss keeps all
+-- what a seat does keeps the claims that it doesn't let go
 act_holds : (p : Plan) (s : State) (seat : ℕ) (act : Act) (n : ℕ) (c : Held) → IsSound p s
-    → CanAct p s seat act → (seat ≢ c.seat) ⊎ IsLoss act → IsHeld s n c
+    → CanAct p s seat act → ((seat ≡ c.seat) → LetsGo n c.attempt act → ⊥) → IsHeld s n c
     → IsHeld (acted p s seat act) n c
 unfolding acted
 act_holds p s seat (Place k a m) n c h can why held = held
@@ -172,19 +181,19 @@ act_holds p s seat (Claim k a m) n c h can why (inl d) = elim (at_cases n k) [
   | inr other ↦ inl (put_else s.desk.claim k
       (held_by a m seat (ready s.graph s.desk.stores k a)) n other ∙ d)
 ]
-act_holds p s seat (Finish k a m) n c h can (inr z) held = absurd z
-act_holds p s seat (Finish k a m) n c h can (inl apart) (inr u) =
+act_holds p s seat (Finish k a m) n c h can apart (inr u) =
     inr (ap (λ (f : ℕ → ℕ → Option Held). f n c.attempt)
     (finish_undone p s k m (s.desk.claim k)) ∙ u)
-act_holds p s seat (Finish k a m) n c h can (inl apart) (inl d) = elim (at_cases n k) [
-  | inl same ↦ absurd (apart (holds_seat (s.desk.claim k) seat a m c can.1.holds
-      (ap s.desk.claim (sym same) ∙ d)))
+act_holds p s seat (Finish k a m) n c h can apart (inl d) = elim (at_cases n k) [
+  | inl same ↦
+      let x = holds_parts (s.desk.claim k) seat a m c can.1.holds
+      (ap s.desk.claim (sym same) ∙ d) in
+      absurd (apart x.0 (sym same, x.1))
   | inr other ↦ inl (finish_else p s k m n (s.desk.claim k) other ∙ d)
 ]
-act_holds p s seat (Drop k a m) n c h can (inr z) held = absurd z
-act_holds p s seat (Drop k a m) n c h can (inl apart) (inl d) =
+act_holds p s seat (Drop k a m) n c h can apart (inl d) =
     inl (dropped_claim p s seat k a m n c h can apart d)
-act_holds p s seat (Drop k a m) n c h can (inl apart) (inr u) =
+act_holds p s seat (Drop k a m) n c h can apart (inr u) =
     inr (dropped_undone p s seat k a m n c h can apart u)
 act_holds p s seat (Lose m) n c h can why (inl d) = elim (at_cases c.machine m) [
   | inl same ↦ inr (undone_new m (s.desk.claim n) (s.desk.undone n c.attempt) c d same)
@@ -198,8 +207,8 @@ act_holds p s seat (Lose m) n c h can why (inr u) =
 -- the law
 pub claims_hold : HoldLaw
 unfolding happens
-claims_hold p s e k c sound enabled why held =
-    elim (act_holds p s e.by e.act k c sound enabled.act why held) [
+claims_hold p s e k c sound enabled keeps held =
+    elim (act_holds p s e.by e.act k c sound enabled.act (λ own go. keeps (own, go)) held) [
       | inl stays ↦ inl stays
       | inr undone ↦ inr undone
     ]

@@ -24,6 +24,7 @@ pub mod Growing
 pub mod Refining
 pub mod Refined
 pub mod Running
+pub mod Beginnings
 pub mod Starting
 pub mod Once
 pub mod Again
@@ -32,5 +33,12 @@ pub mod Progress
 pub mod Stepping
 pub mod Promising
 pub mod Lineage
+pub mod Trims
+pub mod InOrder
+pub mod Unchanged
+pub mod Named
+pub mod Owning
+pub mod Counting
+pub mod Waiting
 pub mod Small
 pub mod ShortRuns

@@ -24,7 +24,7 @@ use Rattle.pyd_runs.proofs.Standing.{stands_node}
 use Rattle.pyd_runs.proofs.Knowing.{past_fresh}
 
 -- arguments name a node where its number is among those that they name
-of_among : (args : List Arg) (n : ℕ) → AreOf n args
+pub of_among : (args : List Arg) (n : ℕ) → AreOf n args
     → list_any (nat_eq n) (flat_map named_by args) ≡ true
 of_among [] n of = absurd of
 of_among (Known v ∷ args) n (inl of) = absurd of
@@ -38,7 +38,7 @@ of_among (Slot at ∷ args) n (inr of) = or_second (nat_eq n at.node) _ (of_amon
 of_among (Unbound ∷ args) n (inl of) = absurd of
 of_among (Unbound ∷ args) n (inr of) = of_among args n of
 
-among_of : (args : List Arg) (n : ℕ) → list_any (nat_eq n) (flat_map named_by args) ≡ true
+pub among_of : (args : List Arg) (n : ℕ) → list_any (nat_eq n) (flat_map named_by args) ≡ true
     → AreOf n args
 among_of [] n e = absurd (cc (e))
 among_of (Known v ∷ args) n e = inr (among_of args n e)

@@ -77,7 +77,7 @@ undone_from machine attempt (Some q) before c e =
     ]
 
 -- the loss that is due is that of the next entry
-due_next : (events machine : ℕ) (losses : List Loss) → due_at events losses ≡ Some machine
+pub due_next : (events machine : ℕ) (losses : List Loss) → due_at events losses ≡ Some machine
     → (l : Loss) × (losses ≡ l ∷ drop 1 losses) × (l.machine ≡ machine)
 due_next events machine [] e = absurd (cc (e))
 due_next events machine (l ∷ losses) e =

@@ -28,7 +28,7 @@ use Rattle.pyd_runs.proofs.Within.{values_there}
 use Rattle.pyd_runs.proofs.Going.{Goes, args_or, Unrecorded, head_waits, jobless, refine_goes, control_goes, job_goes, settle_goes}
 
 -- what the head reads may be read, as no slot port is left for it to name
-may_read : (next : ℕ) (given : Given) (a : Arg) → AreGiven next given (a ∷ [])
+pub may_read : (next : ℕ) (given : Given) (a : Arg) → AreGiven next given (a ∷ [])
     → ArePortsOf no_numbers (a ∷ []) → IsTrue (may_be_read given a)
 may_read next given (Known v) is slots = refl
 may_read next given (From at) is slots = let z = is.0 in ap is_some z.2

@@ -25,12 +25,15 @@ use Rattle.pyd_translate.proofs.LawsMatch.{script_law}
 use Rattle.pyd_translate.proofs.Sequencing.{then-ok, then-err}
 use Rattle.pyd_runs.specs.Plans.{Plan, limits_of}
 use Rattle.pyd_runs.specs.Graphs.{Graph, first_graph}
+use Rattle.pyd_runs.specs.Records.{heads}
 use Rattle.pyd_runs.specs.Desks.{Held}
 use Rattle.pyd_runs.specs.Effects.{State, first_state, acted, happens, settled, settled_chain, settled_as, settled_by, passed, trimmed, finished_by, is_run, kept_by_driver, kept_by_machine}
 use Rattle.pyd_runs.specs.Enabled.{CanAct, WithinWindow}
 use Rattle.pyd_runs.specs.Replay.{IsLegalFrom}
 use Rattle.pyd_runs.specs.Sound.{IsSound, is_over}
 use Rattle.pyd_runs.specs.Laws.{StepsLaw, advances}
+use Rattle.pyd_runs.specs.Bounds.{AllAlong, RefinesHead, HeadStepsLaw}
+use Rattle.pyd_runs.proofs.Putting.{same_test, test_same}
 use Rattle.pyd_runs.proofs.Without.{here, fresh_apart}
 use Rattle.pyd_runs.proofs.Standing.{AreApart, list_apart}
 use Rattle.pyd_runs.proofs.Leaves.{leaf_as, leaf_ok, leaf_err}
@@ -126,21 +129,15 @@ settle_bound p s seat k c sound can b =
     subst (λ (ns : List Node). 1 + c ≤ (walk p.file (limits_of p) ns g.given).steps) (sym x.chain)
     (settled_bound p g x.head x.rest means.0 means.0.result c means.1 refl by_head)
 
--- a composite that is refined where only the head may be is the head
+-- nothing stands before the head
 only_head : (k : ℕ) (before : List Node) (c : Node) (after : List Node)
-    → AreApart (before ++ c ∷ after) → c.id ≡ k → WithinWindow 1 k (before ++ c ∷ after)
+    → AreApart (before ++ c ∷ after) → c.id ≡ k → heads k (before ++ c ∷ after) ≡ true
     → before ≡ []
-only_head k [] c after apart number within = refl
-only_head k (x ∷ before) c after apart number within = elim within.1 [
-  | inl is ↦ absurd (fresh_apart x.id (before ++ c ∷ after) c apart.0
-      (Contains-append_right before (c ∷ after) c (here c after)) (number ∙ sym is))
-  | inr later ↦ absurd (none_within before c after later)
-]
-  where
-    none_within : (ns : List Node) (y : Node) (more : List Node)
-        → WithinWindow 0 k (ns ++ y ∷ more) → ⊥
-    none_within [] y more h = let z = h.0 in absurd (omega (arith, z))
-    none_within (n ∷ ns) y more h = let z = h.0 in absurd (omega (arith, z))
+only_head k [] c after apart number head = refl
+only_head k (x ∷ before) c after apart number head =
+    absurd (fresh_apart x.id (before ++ c ∷ after) c apart.0
+    (Contains-append_right before (c ∷ after) c (here c after))
+    (number ∙ sym (test_same x.id k head)))
 
 -- then the walk leads to it
 head_fewer : (p : Plan) (g : Graph) (before : List Node) (c : Node) (after : List Node)
@@ -153,18 +150,17 @@ head_fewer p g [] c after piece none m =
     (m.replaced.fewer g.given refl)
 head_fewer p g (x ∷ before) c after piece none m = absurd (cc (none))
 
-refine_bound : (p : Plan) (s : State) (seat k c : ℕ) → IsSound p s → p.setup.window ≡ 1
-    → CanAct p s seat (Refine k) → IsBounded p (acted p s seat (Refine k)).graph c
+refine_bound : (p : Plan) (s : State) (seat k c : ℕ) → IsSound p s
+    → heads k s.graph.chain ≡ true → CanAct p s seat (Refine k) → IsBounded p (acted p s seat (Refine k)).graph c
     → 1 + c ≤ steps_of p s.graph
 unfolding acted
-refine_bound p s seat k c sound window can b =
+refine_bound p s seat k c sound head can b =
     let g = s.graph in
     let r = refines_so p s k sound can.0.goes_on can.1 in
     let apart = subst AreApart r.grows.split
     (list_apart (is_over g) g.next g.chain sound.graph.listed) in
-    let within = subst (λ (ns : List Node). WithinWindow 1 k ns) r.grows.split
-    (subst (λ w. WithinWindow w k g.chain) window can.1.window) in
-    let none = only_head k r.before r.node r.after apart r.number within in
+    let first = subst (λ (ns : List Node). heads k ns ≡ true) r.grows.split head in
+    let none = only_head k r.before r.node r.after apart r.number first in
     let fewer = head_fewer p g r.before r.node r.after r.piece none r.grows in
     let few = bounded_at p (growing g r.node r.before r.after r.piece) c
     (subst (λ (x : Graph). IsBounded p x c) r.graph b) in
@@ -192,50 +188,87 @@ idle p g c b = record {
 
 -- by what a seat does
 act_bound : (p : Plan) (s : State) (seat : ℕ) (act : Act) (c : ℕ) → IsSound p s
-    → p.setup.window ≡ 1 → CanAct p s seat act → IsBounded p (acted p s seat act).graph c
+    → RefinesHead s act → CanAct p s seat act → IsBounded p (acted p s seat act).graph c
     → IsBounded p s.graph (cond (advances act) 1 0 + c)
 unfolding acted trimmed
-act_bound p s seat (Place k a m) c sound window can b = idle p s.graph c b
-act_bound p s seat (Claim k a m) c sound window can b = idle p s.graph c b
-act_bound p s seat (Finish k a m) c sound window can b =
+act_bound p s seat (Place k a m) c sound head can b = idle p s.graph c b
+act_bound p s seat (Claim k a m) c sound head can b = idle p s.graph c b
+act_bound p s seat (Finish k a m) c sound head can b =
     idle p s.graph c (finish_bound p s k m c (s.desk.claim k) b)
-act_bound p s seat (Drop k a m) c sound window can b = idle p s.graph c b
-act_bound p s seat (Lose m) c sound window can b = idle p s.graph c b
-act_bound p s seat (Trim k) c sound window can b =
+act_bound p s seat (Drop k a m) c sound head can b = idle p s.graph c b
+act_bound p s seat (Lose m) c sound head can b = idle p s.graph c b
+act_bound p s seat (Trim k) c sound head can b =
     idle p s.graph c (record { goes = b.goes; ended = b.ended })
-act_bound p s seat (Settle k) c sound window can b = record {
+act_bound p s seat (Settle k) c sound head can b = record {
   goes = λ on. settle_bound p s seat k c sound can b;
   ended = λ off. absurd (off can.0.goes_on);
 }
-act_bound p s seat (Refine k) c sound window can b = record {
-  goes = λ on. refine_bound p s seat k c sound window can b;
+act_bound p s seat (Refine k) c sound head can b = record {
+  goes = λ on. refine_bound p s seat k c sound head can b;
   ended = λ off. absurd (off can.0.goes_on);
 }
 
 -- how often the chain takes a step
-taken : List Event → ℕ
+unfoldable pub taken : List Event → ℕ
 taken es = count_by (λ (e : Event). advances e.act) es
 
-taken_cons : (e : Event) (es : List Event)
+pub taken_cons : (e : Event) (es : List Event)
     → taken (e ∷ es) ≡ cond (advances e.act) 1 0 + taken es
 unfolding taken
 taken_cons e es = sum_by-cons (λ (x : Event). cond (advances x.act) 1 0) e es
 
-events_bound : (p : Plan) (s : State) (es : List Event) → IsSound p s → p.setup.window ≡ 1
-    → IsLegalFrom p s es → IsBounded p s.graph (taken es)
+events_bound : (p : Plan) (s : State) (es : List Event) → IsSound p s
+    → AllAlong RefinesHead p s es → IsLegalFrom p s es → IsBounded p s.graph (taken es)
 unfolding IsLegalFrom happens taken
-events_bound p s [] sound window legal =
+events_bound p s [] sound along legal =
     record { goes = λ on. omega arith; ended = λ off. refl }
-events_bound p s (e ∷ es) sound window legal =
-    let later = events_bound p (happens p s e) es (event_keeps p s e sound legal.0) window legal.1 in
+events_bound p s (e ∷ es) sound along legal =
+    let later = events_bound p (happens p s e) es (event_keeps p s e sound legal.0) along.1 legal.1 in
     subst (IsBounded p s.graph) (sym (taken_cons e es))
-    (act_bound p s e.by e.act (taken es) sound window legal.0.act later)
+    (act_bound p s e.by e.act (taken es) sound along.0 legal.0.act later)
 
 -- the law
-pub steps_taken : StepsLaw
+pub head_steps : HeadStepsLaw
 unfolding taken
-steps_taken p es runnable window legal =
+head_steps p es runnable legal along =
     let few = bounded_at p (first_graph p) (taken es)
-    (events_bound p (first_state p) es (starts p runnable) window legal) in
+    (events_bound p (first_state p) es (starts p runnable) along legal) in
     let all = (script_law p.file (limits_of p)).steps in
     omega (arith, few, all)
+
+-- within a window of 1 stands the head alone
+within_none : (k : ℕ) (ns : List Node) → WithinWindow 0 k ns → ⊥
+within_none k [] within = within
+within_none k (n ∷ ns) within = let z = within.0 in absurd (omega (arith, z))
+
+within_head : (k : ℕ) (ns : List Node) → WithinWindow 1 k ns → heads k ns ≡ true
+within_head k [] within = absurd within
+within_head k (n ∷ ns) within = elim within.1 [
+  | inl is ↦ same_test n.id k is
+  | inr later ↦ absurd (within_none k ns later)
+]
+
+act_head : (p : Plan) (s : State) (seat : ℕ) (act : Act) → p.setup.window ≡ 1
+    → CanAct p s seat act → RefinesHead s act
+act_head p s seat (Place k a m) window can = tt
+act_head p s seat (Claim k a m) window can = tt
+act_head p s seat (Finish k a m) window can = tt
+act_head p s seat (Drop k a m) window can = tt
+act_head p s seat (Settle k) window can = tt
+act_head p s seat (Lose m) window can = tt
+act_head p s seat (Trim k) window can = tt
+act_head p s seat (Refine k) window can =
+    within_head k s.graph.chain
+    (subst (λ w. WithinWindow w k s.graph.chain) window can.1.window)
+
+all_heads : (p : Plan) (s : State) (es : List Event) → p.setup.window ≡ 1
+    → IsLegalFrom p s es → AllAlong RefinesHead p s es
+unfolding IsLegalFrom
+all_heads p s [] window legal = tt
+all_heads p s (e ∷ es) window legal =
+    (act_head p s e.by e.act window legal.0.act, all_heads p (happens p s e) es window legal.1)
+
+-- the law of such a window
+pub steps_taken : StepsLaw
+steps_taken p es runnable window legal =
+    head_steps p es runnable legal (all_heads p (first_state p) es window legal)

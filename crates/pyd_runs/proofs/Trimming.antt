@@ -23,7 +23,7 @@ use Rattle.pyd_runs.proofs.Claiming.{ready_parts, ready_named}
 use Rattle.pyd_runs.proofs.Without.{without, fresh_without, none_without, fresh_append, fresh_parts, fresh_apart, ordered_without, was_there, is_left, stands_true, fresh_stands, stands_less, stands_without, ordered_apart}
 
 -- what the chain reaches without a node it reached before
-still_reached : (k : ℕ) (g : Graph) (m : ℕ) → Reached (trimmed k g) m → Reached g m
+pub still_reached : (k : ℕ) (g : Graph) (m : ℕ) → Reached (trimmed k g) m → Reached g m
 unfolding trimmed
 still_reached k g m (by_chain n i at names) = by_chain n m at names
 still_reached k g m (by_past n i at reached names) =

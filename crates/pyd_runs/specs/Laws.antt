@@ -11,11 +11,11 @@ use Rattle.pyd_ir.specs.declared.node.Node.{Node}
 use Rattle.pyd_lineage.specs.Lineage.{Reaches, is_among}
 use Rattle.pyd_runs.specs.Plans.{Plan, meaning}
 use Rattle.pyd_runs.specs.Graphs.{Graph}
-use Rattle.pyd_runs.specs.Desks.{Held, Stores}
+use Rattle.pyd_runs.specs.Desks.{Stores}
 use Rattle.pyd_runs.specs.Records.{records}
 use Rattle.pyd_runs.specs.Reach.{Reached, Needed}
 use Rattle.pyd_runs.specs.Effects.{State, acted, happens}
-use Rattle.pyd_runs.specs.Enabled.{CanPlace, CanClaim, CanFinish, CanLose, CanRefine, CanSettle, CanTrim, Enabled, IsLoss, due}
+use Rattle.pyd_runs.specs.Enabled.{CanPlace, CanClaim, CanFinish, CanLose, CanRefine, CanSettle, CanTrim, Enabled, due}
 use Rattle.pyd_runs.specs.Replay.{IsLegal, replay}
 use Rattle.pyd_runs.specs.Sound.{IsSound, IsGraphSound, IsWhole, ports_seen, leaf_seen, sight, stands}
 
@@ -178,15 +178,6 @@ advances (Trim k) = false
 abbrev pub StepsLaw : Type 0
 StepsLaw = (p : Plan) (es : List Event) → IsRunnable p → p.setup.window ≡ 1 → IsLegal p es
     → count_by (λ e. advances e.act) es ≤ 4 * (meaning p).steps
-
--- a claim of a node stands, or a loss undid it and it wasn't dropped since
-abbrev pub IsHeld : State → ℕ → Held → Type 0
-IsHeld s k c = (s.desk.claim k ≡ Some c) ⊎ (s.desk.undone k c.attempt ≡ Some c)
-
--- a claim is held until its own seat finishes or drops it
-abbrev pub HoldLaw : Type 0
-HoldLaw = (p : Plan) (s : State) (e : Event) (k : ℕ) (c : Held) → IsSound p s → Enabled p s e
-    → (e.by ≢ c.seat) ⊎ IsLoss e.act → IsHeld s k c → IsHeld (happens p s e) k c
 
 -- between two claims of a node stands a loss of the first one's machine
 abbrev pub AgainLaw : Type 0

@@ -11,4 +11,9 @@ pub mod Replay
 pub mod Sound
 pub mod Laws
 pub mod Promise
+pub mod Following
+pub mod Facts
+pub mod Claims
+pub mod Bounds
+pub mod HeadOrder
 pub mod Rows

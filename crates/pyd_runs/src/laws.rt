@@ -1,5 +1,5 @@
 //! The laws of runs: contracts of functions with empty bodies.
-ghost use Rattle.pyd_runs.specs.Laws.{AgainLaw, BarLaw, ClaimLaw, DropLaw, EndLaw, EventLaw, FinishLaw, HoldLaw, LoseLaw, LossLaw, NeedLaw, OnceLaw, PlaceLaw, PrefixLaw, ProgressLaw, ReachLaw, RefineLaw, RunLaw, SettleLaw, SightLaw, StepsLaw, TrimLaw};
+ghost use Rattle.pyd_runs.specs.Laws.{AgainLaw, BarLaw, ClaimLaw, DropLaw, EndLaw, EventLaw, FinishLaw, LoseLaw, LossLaw, NeedLaw, OnceLaw, PlaceLaw, PrefixLaw, ProgressLaw, ReachLaw, RefineLaw, RunLaw, SettleLaw, SightLaw, StepsLaw, TrimLaw};
 ghost use Rattle.pyd_runs.specs.Promise.{Promise};
 
 /// While a run goes on, a loss that is due bars any other event.
@@ -15,11 +15,6 @@ pub fn drop_law()
 /// A ticket that may be placed keeps what holds.
 pub fn place_law()
     ensures { PlaceLaw }
-{}
-
-/// A claim is held until its own seat finishes or drops it.
-pub fn hold_law()
-    ensures { HoldLaw }
 {}
 
 /// A claim that may be finished keeps what holds.

@@ -1,13 +1,25 @@
 //! Runs of a script over machines that are lost: which events may come, what they do, and what is promised of every run.
 #![tactic(auto)]
 
+mod bounds;
+mod claims;
+mod facts;
+mod following;
+mod head_order;
 mod laws;
 mod rows;
 
+pub use bounds::{event_count_law, head_steps_law, loss_count_law, node_count_law};
+pub use claims::{hold_law, let_go_law, own_law, since_law, take_law};
+pub use facts::{
+    claimed_law, desk_law, finished_law, in_order_law, number_law, output_law, ticket_law,
+};
+pub use following::{beginning_law, journal_law, spared_law, step_law, trimmed_law, trims_law};
+pub use head_order::{head_order_law, next_law, next_order_law};
 pub use laws::{
-    again_law, bar_law, claim_law, drop_law, end_law, event_law, finish_law, hold_law, lose_law,
-    loss_law, need_law, once_law, place_law, prefix_law, progress_law, promise_law, reach_law,
-    refine_law, run_law, settle_law, sight_law, steps_law, trim_law,
+    again_law, bar_law, claim_law, drop_law, end_law, event_law, finish_law, lose_law, loss_law,
+    need_law, once_law, place_law, prefix_law, progress_law, promise_law, reach_law, refine_law,
+    run_law, settle_law, sight_law, steps_law, trim_law,
 };
 pub use rows::{
     at_once_row, in_turn_row, lost_in_claim_row, lost_when_done_row, only_loss_row,
