@@ -1,0 +1,3 @@
+pub mod Claiming
+pub mod Going
+pub mod Held

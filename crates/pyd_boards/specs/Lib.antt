@@ -1,0 +1,6 @@
+pub mod Boards
+pub mod Calls
+pub mod Holding
+pub mod Lawful
+pub mod Moves
+pub mod Working
