@@ -284,7 +284,7 @@ unfolding happens
 event_level p s e n sound can order = act_level p s e.by e.act n sound can order
 
 -- how many losses, and how many events that serve a node
-losing : List Event → ℕ
+unfoldable pub losing : List Event → ℕ
 losing es = count_by (λ (e : Event). is_loss e.act) es
 
 losing_cons : (e : Event) (es : List Event)
@@ -370,7 +370,7 @@ event_losses : (p : Plan) (s : State) (e : Event) → CanAct p s e.by e.act
 unfolding happens
 event_losses p s e can = act_losses p s e.by e.act can
 
-lost_so_far : (p : Plan) (s : State) (es : List Event) → IsLegalFrom p s es
+pub lost_so_far : (p : Plan) (s : State) (es : List Event) → IsLegalFrom p s es
     → losing es ≤ length s.losses
 unfolding IsLegalFrom losing
 lost_so_far p s [] legal = omega arith
@@ -508,7 +508,7 @@ event_total f g n (Lose m) low less =
     omega (arith, few)
 
 -- a share for each loss
-loss_share : (b : Bool) (l n all : ℕ) → all ≡ cond b 1 0 + l → all * n ≡ cond b n 0 + l * n
+pub loss_share : (b : Bool) (l n all : ℕ) → all ≡ cond b 1 0 + l → all * n ≡ cond b n 0 + l * n
 loss_share true l n all is =
     let more : all ≡ suc l = omega (arith, is) in
     let same = ap (λ x. x * n) more in
@@ -619,13 +619,13 @@ order_heads p s [] order = tt
 order_heads p s (e ∷ es) order =
     (order_head s e.act order.0, order_heads p (happens p s e) es order.1)
 
-few_steps : (p : Plan) (es : List Event) → IsRunnable p → IsLegal p es
+pub few_steps : (p : Plan) (es : List Event) → IsRunnable p → IsLegal p es
     → AllAlong InHeadOrder p (first_state p) es → taken es ≤ 4 * (meaning p).steps
 unfolding taken
 few_steps p es runnable legal order =
     head_steps p es runnable legal (order_heads p (first_state p) es order)
 
-few_events : (p : Plan) (es : List Event) → IsRunnable p → IsLegal p es
+pub few_events : (p : Plan) (es : List Event) → IsRunnable p → IsLegal p es
     → AllAlong InHeadOrder p (first_state p) es
     → length es
     ≤ 4 * (meaning p).steps + losing es + 3 * (suc (losing es) * (replay p es).graph.next)

@@ -31,7 +31,6 @@ pub mod Again
 pub mod Going
 pub mod Progress
 pub mod Stepping
-pub mod Promising
 pub mod Lineage
 pub mod Trims
 pub mod InOrder
@@ -39,6 +38,11 @@ pub mod Unchanged
 pub mod Named
 pub mod Owning
 pub mod Counting
+pub mod Suites
+pub mod Fitting
+pub mod Made
+pub mod Bounding
+pub mod Promising
 pub mod Waiting
 pub mod Small
 pub mod ShortRuns

@@ -8,6 +8,7 @@ use Rattle.pyd_runs.proofs.Again.{claimed_again}
 use Rattle.pyd_runs.proofs.Once.{once_settled}
 use Rattle.pyd_runs.proofs.Places.{losses_stand}
 use Rattle.pyd_runs.proofs.Progress.{goes_on}
+use Rattle.pyd_runs.proofs.Bounding.{run_bounded}
 use Rattle.pyd_runs.proofs.Running.{run_keeps, prefix_keeps, end_keeps}
 
 -- the law
@@ -21,5 +22,6 @@ promised p es runnable legal = record {
       (subst (λ (xs : List Event). IsLegal p xs) is legal) one two;
   losses = losses_stand p es runnable legal;
   goes_on = λ none. goes_on p (replay p es) runnable (run_keeps p es runnable legal) none;
+  bounded = λ order. run_bounded p es runnable legal order;
   sound = run_keeps p es runnable legal;
 }

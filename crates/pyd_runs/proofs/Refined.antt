@@ -185,7 +185,7 @@ module _ (p : Plan) (g : Graph) (d : Desk) (lost : ℕ → Bool) (before : List 
           ]
 
 -- the graph with the piece
-grown_is : (p : Plan) (g : Graph) (stores : Stores) (k : ℕ) (before : List Node) (c : Node)
+pub grown_is : (p : Plan) (g : Graph) (stores : Stores) (k : ℕ) (before : List Node) (c : Node)
     (after : List Node) → IsGraphSound p g → g.chain ≡ before ++ c ∷ after → c.id ≡ k
     → grown p stores k g ≡ growing g c before after (piece_for p (recorded g stores) g.next c)
 unfolding grown

@@ -4,6 +4,7 @@ use Rattle.std.specs.List.{count_by}
 use Rattle.pyd_board.specs.declared.event.Act.{Act}
 use Rattle.pyd_board.specs.declared.event.Act.TheVariants.{Place, Claim, Finish, Drop, Refine, Settle, Lose, Trim}
 use Rattle.pyd_board.specs.declared.event.Event.{Event}
+use Rattle.pyd_translate.specs.Counts.{file_items}
 use Rattle.pyd_runs.specs.Plans.{Plan, meaning}
 use Rattle.pyd_runs.specs.Records.{heads}
 use Rattle.pyd_runs.specs.Effects.{State, first_state, happens}
@@ -86,3 +87,20 @@ EventCountLaw = (p : Plan) (es : List Event) → IsRunnable p → IsLegal p es
     → length es
     ≤ 4 * (meaning p).steps + losses_of es
     + 3 * (suc (losses_of es) * (replay p es).graph.next)
+
+-- a run makes at most 3 nodes for each statement, arm, expression and suffix of its file, and for each step of the chain as many and 3 more
+abbrev pub MadeCountLaw : Type 0
+MadeCountLaw = (p : Plan) (es : List Event) → IsRunnable p → IsLegal p es
+    → (replay p es).graph.next
+    ≤ 3 * file_items p.file
+    + 3 * (count_by (λ e. advances e.act) es * suc (file_items p.file))
+
+-- the bound on events, by the statements, arms, expressions and suffixes of the file, the steps of the script and the losses of the plan
+abbrev pub event_bound : Plan → ℕ
+event_bound p =
+    100 * file_items p.file * ((meaning p).steps + 1) * (1 + length p.setup.losses)
+
+-- a run in head order has no more events
+abbrev pub RunBound : Type 0
+RunBound = (p : Plan) (es : List Event) → IsRunnable p → IsLegal p es
+    → AllAlong InHeadOrder p (first_state p) es → length es ≤ event_bound p

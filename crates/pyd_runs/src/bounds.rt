@@ -1,5 +1,5 @@
 //! How many events a run has at most where the head alone is refined: contracts of functions with empty bodies.
-ghost use Rattle.pyd_runs.specs.Bounds.{EventCountLaw, HeadStepsLaw, LossCountLaw, NodeCountLaw};
+ghost use Rattle.pyd_runs.specs.Bounds.{EventCountLaw, HeadStepsLaw, LossCountLaw, MadeCountLaw, NodeCountLaw, RunBound};
 
 /// Where the head alone is refined, a run settles and refines at most 4 nodes for each step of the script.
 pub fn head_steps_law()
@@ -20,4 +20,16 @@ pub fn node_count_law()
 /// node that was made, and for each node and loss.
 pub fn event_count_law()
     ensures { EventCountLaw }
+{}
+
+/// A run makes at most 3 nodes for each statement, arm, expression and suffix of its file, and for each step of
+/// the chain as many and 3 more.
+pub fn made_count_law()
+    ensures { MadeCountLaw }
+{}
+
+/// A run in head order has at most 100 * S * (T + 1) * (1 + L) events: S counts the statements, arms,
+/// expressions and suffixes of the file, T the steps of the script, and L the losses of the plan.
+pub fn run_bound_law()
+    ensures { RunBound }
 {}

@@ -99,8 +99,8 @@ pub fn steps_law()
 {}
 
 /// What is promised of every legal run: its lines are the first of the script's, and at its end all of them;
-/// no node is settled twice, or claimed again without a loss; losses come at their places; and where it
-/// hasn't ended an event on the way to the end may come.
+/// no node is settled twice, or claimed again without a loss; losses come at their places; where it hasn't
+/// ended an event on the way to the end may come; and in head order its events are bounded.
 pub fn promise_law()
     ensures { Promise }
 {}

@@ -9,7 +9,9 @@ mod head_order;
 mod laws;
 mod rows;
 
-pub use bounds::{event_count_law, head_steps_law, loss_count_law, node_count_law};
+pub use bounds::{
+    event_count_law, head_steps_law, loss_count_law, made_count_law, node_count_law, run_bound_law,
+};
 pub use claims::{hold_law, let_go_law, own_law, since_law, take_law};
 pub use facts::{
     claimed_law, desk_law, finished_law, in_order_law, number_law, output_law, ticket_law,
