@@ -255,7 +255,7 @@ over_past true b o is none = absurd (cc (is))
 over_past false true o is none = refl
 over_past false false o is none = let z = ap is_some none in absurd (cc (is, z))
 
-over_fresh : (g : Graph) (j : ℕ) → is_over g j ≡ true → IsFresh j g.chain
+pub over_fresh : (g : Graph) (j : ℕ) → is_over g j ≡ true → IsFresh j g.chain
 over_fresh g j is = by_test (stands j g.chain) refl
   where
     by_test : (b : Bool) → stands j g.chain ≡ b → IsFresh j g.chain
@@ -273,7 +273,7 @@ module _ (p : Plan) (s : State) (sound : IsSound p s) where
   kept_ports = recorded s.graph s.desk.stores
 
   -- what is over and has a record has recorded what it gave
-  recorded_given : (j port : ℕ) (ran : Ran) → is_over s.graph j ≡ true
+  pub recorded_given : (j port : ℕ) (ran : Ran) → is_over s.graph j ≡ true
       → records s.graph s.desk.stores j ≡ Some ran
       → recorded s.graph s.desk.stores j port ≡ s.graph.given j port
   recorded_given j port ran over record_is = by_node (node_at (nodes s.graph) j) refl

@@ -36,7 +36,7 @@ all_differ [] apart = tt
 all_differ (n ∷ ns) apart = (others_differ n.id ns apart.0, all_differ ns apart.1)
 
 -- a truth value is one of two
-true_or_false : (b : Bool) → (b ≡ true) ⊎ (b ≡ false)
+pub true_or_false : (b : Bool) → (b ≡ true) ⊎ (b ≡ false)
 true_or_false true = inl refl
 true_or_false false = inr refl
 

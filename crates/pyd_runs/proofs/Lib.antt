@@ -44,5 +44,11 @@ pub mod Made
 pub mod Bounding
 pub mod Promising
 pub mod Waiting
+pub mod Testing
+pub mod HeadRecords
+pub mod NextLost
+pub mod Releasing
+pub mod Choosing
+pub mod Distinct
 pub mod Small
 pub mod ShortRuns

@@ -32,7 +32,7 @@ abbrev IsNoLoss : Act → Type 0
 IsNoLoss act = (k : ℕ) (more : List (ℕ × ℕ)) → loss_at k act more ≡ more
 
 -- there is none, or there is one
-none_or_some : {A : Type 0} (o : Option A) → (o ≡ None) ⊎ ((a : A) × (o ≡ Some a))
+pub none_or_some : {A : Type 0} (o : Option A) → (o ≡ None) ⊎ ((a : A) × (o ≡ Some a))
 none_or_some None = inl refl
 none_or_some (Some a) = inr (a, refl)
 

@@ -105,7 +105,7 @@ same_may p s e (j ∷ ks) may = (
 )
 
 -- one entry more of a seat
-one_more : (seat : ℕ) (es : List Event) (e : Event) → e.by ≡ seat
+pub one_more : (seat : ℕ) (es : List Event) (e : Event) → e.by ≡ seat
     → entries seat (es ++ e ∷ []) ≡ suc (entries seat es)
 one_more seat es e by =
     let test : Event → ℕ = λ (x : Event). cond (x.by == seat) 1 0 in

@@ -16,4 +16,9 @@ pub mod Facts
 pub mod Claims
 pub mod Bounds
 pub mod HeadOrder
+pub mod Deciding
+pub mod Choices
+pub mod Heads
+pub mod NextLosses
+pub mod Releases
 pub mod Rows
