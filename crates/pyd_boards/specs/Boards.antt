@@ -20,6 +20,9 @@ pub record Facts (J : Type 0) : Type 0 where
   pub has_ended : List Event → ℕ → Bool
   -- after events: the job that a claim of a node's attempt gets, none where the attempt isn't the node's live one
   pub job : List Event → ℕ → ℕ → Option J
+  -- the node and the attempt of a job
+  pub node_of : J → ℕ
+  pub attempt_of : J → ℕ
   -- the board's end
   pub end : History → Option End
 

@@ -16,18 +16,18 @@ use Rattle.pyd_board.specs.Histories.{ExtendsBy}
 use Rattle.pyd_boards.specs.Boards.{Facts, ClaimAfter, entry, with_events, is_over, are_over, is_done}
 
 -- what an act does
-pub data Kind : Type 0 where
-  places : Kind
-  claims : Kind
-  finishes : Kind
-  drops : Kind
-  refines : Kind
-  settles : Kind
-  loses : Kind
-  trims : Kind
+pub data ActKind : Type 0 where
+  places : ActKind
+  claims : ActKind
+  finishes : ActKind
+  drops : ActKind
+  refines : ActKind
+  settles : ActKind
+  loses : ActKind
+  trims : ActKind
 
 -- the kind of an act
-abbrev pub kind_of : Act → Kind
+abbrev pub kind_of : Act → ActKind
 kind_of (Place node attempt machine) = places
 kind_of (Claim node attempt machine) = claims
 kind_of (Finish node attempt machine) = finishes
@@ -128,7 +128,7 @@ module _ {J : Type 0} (facts : Facts J) where
       then finished.Dropped else finished.Kept
 
   -- an event of a kind in a run
-  pub record IsIn (kind : Kind) (run : ℕ) (e : Event) : Type 0 where
+  pub record IsIn (kind : ActKind) (run : ℕ) (e : Event) : Type 0 where
     pub of_kind : kind_of e.act ≡ kind
     pub in_run : facts.run (number_of e.act) ≡ run
 
@@ -139,7 +139,7 @@ module _ {J : Type 0} (facts : Facts J) where
 
   module _ (may_come : List Event → Event → Type 0) where
     -- no event of a kind in a run may come
-    abbrev pub NoneIn : Kind → ℕ → List Event → Type 0
+    abbrev pub NoneIn : ActKind → ℕ → List Event → Type 0
     NoneIn kind run events = (e : Event) → may_come events e → IsIn kind run e → ⊥
 
     -- the losses of a run that were due, one after another until none is

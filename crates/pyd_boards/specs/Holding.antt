@@ -4,9 +4,13 @@ use Rattle.pyd_board.specs.declared.event.Act.{Act}
 use Rattle.pyd_board.specs.declared.event.Act.TheVariants.{Place, Claim, Finish, Drop, Refine, Settle, Lose, Trim}
 use Rattle.pyd_board.specs.declared.event.Event.{Event}
 use Rattle.pyd_board.specs.declared.history.History.{History}
+use Rattle.pyd_board.specs.declared.kept.RunName.{RunName}
+use Rattle.pyd_board.specs.declared.seat.Ticket.{Ticket}
 use Rattle.pyd_board.specs.declared.seat.Who.{Who}
 use Rattle.pyd_board.specs.Histories.{entries_of, Extends, ExtendsBy}
-use Rattle.pyd_boards.specs.Boards.{ClaimAfter, Holds}
+use Rattle.pyd_boards.specs.declared.answers.Claimed.TheVariants as claimed
+use Rattle.pyd_boards.specs.Boards.{Facts, ClaimAfter, Holds, HoldsJob}
+use Rattle.pyd_boards.specs.Calls.{Claims}
 
 -- a claim is held after the entries of another seat
 abbrev pub HeldAfterOthers : Type 0
@@ -35,3 +39,11 @@ is_claim (Trim node) = false
 abbrev pub NoneHeldAfter : Type 0
 NoneHeldAfter = (who : Who) (events more : List Event) → HoldsNone who events
     → All (λ e. ((e.by == who.seat) && is_claim e.act) ≡ false) more → HoldsNone who (events ++ more)
+
+-- a job that a claim of a board gives is held
+abbrev pub ClaimedIsHeld : {J : Type 0} → (List RunName → Facts J)
+    → (List RunName → List Event → Event → Type 0) → Type 0
+ClaimedIsHeld {J} facts may_come = (name : List RunName) (ticket : Ticket) (who : Who)
+    (old new : History) (job : J)
+    → Claims (facts name) (may_come name) name ticket who old (claimed.Job job) new
+    → HoldsJob (facts name) who job new.events

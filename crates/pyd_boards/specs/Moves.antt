@@ -12,7 +12,7 @@ use Rattle.pyd_board.specs.declared.kept.RunName.{RunName}
 use Rattle.pyd_board.specs.declared.seat.Ticket.{Ticket}
 use Rattle.pyd_board.specs.declared.seat.Who.{Who}
 use Rattle.pyd_boards.specs.Boards.{Facts, with_events, is_over, is_done, is_lost_from}
-use Rattle.pyd_boards.specs.Calls.{Kind, places, refines, settles, loses, trims, IsIn, NoneIn, AreDue, AreNext, is_loss, number_of}
+use Rattle.pyd_boards.specs.Calls.{ActKind, places, refines, settles, loses, trims, IsIn, NoneIn, AreDue, AreNext, is_loss, number_of}
 
 -- the ticket of an act that places one
 abbrev pub ticket_of : Act → Option Ticket
@@ -58,7 +58,7 @@ module _ {J : Type 0} (facts : Facts J) (may_come : List Event → Event → Typ
       × (number_of e.act ≡ t.node))
 
   -- the last of events is of a kind in a run
-  abbrev pub EndsIn : Kind → ℕ → List Event → Type 0
+  abbrev pub EndsIn : ActKind → ℕ → List Event → Type 0
   EndsIn kind run events = (before : List Event) × ((last : Event) × (events ≡ before ++ last ∷ []) × IsIn facts kind run last)
 
   -- the head is settled, and past nodes are trimmed until none may be, with losses that come due

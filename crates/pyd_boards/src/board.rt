@@ -73,6 +73,8 @@ pub trait Board: Kept {
             call.Finishes (facts (Self.name self.old)) (may_come (Self.name self.old))
             held.claim who (Self.history self.old) answer (Self.history self.new)) }
         ensures back { IfErr result (λ e. e.0 ≡ done) }
+        ensures over { call.IsConcluded (facts (Self.name self.old))
+            (Self.name self.old) (Self.history self.new) }
         ensures memory { (held : HoldsJob (facts (Self.name self.old)) who (Self.Done.job done)
             (Self.history self.old).events) → IfErr result (λ e.
             call.LosesIn (facts (Self.name self.old)) (may_come (Self.name self.old))
@@ -105,7 +107,9 @@ pub trait Board: Kept {
         ensures goes_on { call.GoesOnBy (may_come (Self.name self.old)) who.seat
             (Self.history self.old) (Self.history self.new) }
         ensures losses { moves.LosesAll (facts (Self.name self.old)) (may_come (Self.name self.old))
-            (Self.history self.old) (Self.history self.new) };
+            (Self.history self.old) (Self.history self.new) }
+        ensures over { call.IsConcluded (facts (Self.name self.old))
+            (Self.name self.old) (Self.history self.new) };
 
     /// Halts the board; the first cause stays. Takes no memory.
     fn stop(&mut self, why: Halt)
@@ -138,5 +142,5 @@ pub trait Board: Kept {
     /// What it tells goes with the events that may come, after events that came each in its turn.
     ghost lawful: { (name : List RunName) (events : List Event)
         → call.AreNext (may_come name) [] events
-        → AreLawful (facts name) (may_come name) events };
+        → AreLawful name (facts name) (may_come name) events };
 }

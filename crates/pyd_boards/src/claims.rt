@@ -1,5 +1,12 @@
 //! How long a seat holds its claims: contracts of functions that do nothing.
-ghost use Rattle.pyd_boards.specs.Holding.{HeldAfterOthers, HeldMeanwhile, NoneHeldAfter};
+ghost use Rattle.pyd_boards.specs.Holding.{ClaimedIsHeld, HeldAfterOthers, HeldMeanwhile, NoneHeldAfter};
+
+use crate::Board;
+
+/// A job that a claim of the board gives is held by its seat.
+pub fn claimed_is_held<B: Board>()
+    ensures { ClaimedIsHeld B.facts B.may_come }
+{}
 
 /// A claim is still held after another seat's events.
 pub fn held_after_others()

@@ -8,5 +8,5 @@ mod tickets;
 
 pub use answers::{Claimed, Finished, Moved};
 pub use board::Board;
-pub use claims::{held_after_others, held_meanwhile, none_held_after};
+pub use claims::{claimed_is_held, held_after_others, held_meanwhile, none_held_after};
 pub use tickets::{Served, serve};
