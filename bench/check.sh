@@ -1,6 +1,7 @@
 #!/usr/bin/env bash
 # Times `pydron check` beside python3 reading and compiling the same source, on sources of 256 KiB, 512 KiB and 1 MiB,
-# and `pydron check` alone on hostile ones. Five rounds in turn; prints medians, ratios and peaks of memory.
+# and `pydron check` alone on hostile ones. Five rounds in turn; prints medians of processor seconds, ratios and peaks of
+# memory.
 # Complains where check takes longer than python3, more than 2.3 times as long for twice the source, or more than
 # 400 times the source's memory.
 set -eu
@@ -14,7 +15,6 @@ import os
 import statistics
 import subprocess
 import sys
-import time
 
 work, program = sys.argv[1:]
 LONGEST = 1_048_576
@@ -58,14 +58,12 @@ def written(name, text):
 
 
 def measured(command, path):
-    """The seconds and the peak of memory, in bytes, of one run."""
+    """The processor seconds and the peak of memory, in bytes, of one run."""
     with open(path, "rb") as stdin:
-        start = time.perf_counter()
         child = subprocess.Popen(command, stdin=stdin, stdout=subprocess.DEVNULL)
         _, status, usage = os.wait4(child.pid, 0)
-        seconds = time.perf_counter() - start
     assert status == 0, command
-    return seconds, usage.ru_maxrss * 1024
+    return usage.ru_utime + usage.ru_stime, usage.ru_maxrss * 1024
 
 
 def checked(path, rounds=5):

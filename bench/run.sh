@@ -1,7 +1,8 @@
 #!/usr/bin/env bash
 # Times `pydron run` beside python3 on whole scripts, and `check` and `run` on hostile ones; five rounds in turn.
-# Prints a table: medians of the whole process in seconds, the ratio to python3, and peaks of memory in MiB.
-# Complains where the two print something else. A script that pydron doesn't run so far, or python3 can't, has no time.
+# Prints a table: medians of the processor seconds of the whole process, the ratio to python3, and peaks of memory in MiB.
+# Processor seconds, since both run on one thread, and other work on the machine then tells least.
+# Complains where the two print something else. What ends with another status than 0 has no time.
 # A peak below 20 MiB is that of the process that measures.
 set -eu
 here=$(cd "$(dirname "$0")/.." && pwd)
@@ -14,7 +15,6 @@ import os
 import statistics
 import subprocess
 import sys
-import time
 
 work, here = sys.argv[1:]
 program = f"{here}/crates/pydron/out/pydron"
@@ -57,12 +57,11 @@ HOSTILE = {
 
 
 def measured(command, path, output):
-    """The seconds, the peak of memory in MiB, and the status of one run."""
+    """The processor seconds, the peak of memory in MiB, and the status of one run."""
     with open(path, "rb") as stdin, open(output, "wb") as stdout:
-        start = time.perf_counter()
         child = subprocess.Popen(command, stdin=stdin, stdout=stdout, stderr=subprocess.DEVNULL)
         _, status, usage = os.wait4(child.pid, 0)
-        return time.perf_counter() - start, usage.ru_maxrss >> 10, os.waitstatus_to_exitcode(status)
+        return usage.ru_utime + usage.ru_stime, usage.ru_maxrss >> 10, os.waitstatus_to_exitcode(status)
 
 
 def median(runs):

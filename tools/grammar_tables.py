@@ -2,8 +2,9 @@
 """Writes src/productions.rt, src/table.rt and specs/Sets.antt of crates/pyd_syntax from the grammar's pages.
 
 Run by hand at the top of the repository, after a production was added: python3 tools/grammar_tables.py
-It reads specs/Grammar.antt, specs/Rules.antt and src/terminal.rt of that crate, and stops where two productions
-of one rule may begin with the same terminal. What it writes needs no trust: the crate's check computes it anew.
+Then `rt fmt` in crates/pyd_syntax lays the tables out. It reads specs/Grammar.antt, specs/Rules.antt and
+src/terminal.rt of that crate, and stops where two productions of one rule may begin with the same terminal. What it
+writes needs no trust: the crate's check computes it anew.
 """
 
 import re
@@ -170,6 +171,7 @@ nullable =
 unfoldable pub lead : List ℕ
 lead = {listed(lead[r] for r in range(len(rules)))}
 
+-- more than any rule may add
 abbrev pub bound : ℕ
 bound = {bound}
 
