@@ -1,5 +1,5 @@
 #!/usr/bin/env python3
-"""Writes crates/pyd_value_tests/src/ops/rows.rt and the files of rows/: operations, and what CPython answers.
+"""Writes crates/pyd_ops_tests/src/ops/rows.rt and the files of rows/: operations, and what CPython answers.
 
 Run by hand at the top of the repository: python3 tools/operator_rows.py
 Every operation is asked of every pair of operands. The answers are CPython's; those that the profile
@@ -152,7 +152,7 @@ TOPICS = [("arithmetic", "Signs, arithmetic, shifts and bits", [name for name, _
           ("calls", "Calls of builtin functions", [name for name, _ in CALLS]),
           ("comparisons", "Comparisons and memberships", [name for name, _ in COMPARE]),
           ("parts", "Indexing, slices and items", ["Index", "Slice", "Items", "ItemAt"])]
-FOLDER = "crates/pyd_value_tests/src/ops/"
+FOLDER = "crates/pyd_ops_tests/src/ops/"
 
 for topic, title, names in TOPICS:
     with open(f"{FOLDER}rows/{topic}.rt", "w") as file:

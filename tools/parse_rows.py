@@ -10,7 +10,7 @@ import ast
 import pathlib
 import re
 
-ROWS = pathlib.Path(__file__).parent.parent / "crates/pyd_script_tests/src/grammar/rows.rt"
+ROWS = pathlib.Path(__file__).parent.parent / "crates/pyd_grammar_tests/src/grammar/rows.rt"
 
 # Python that is outside the profile.
 OUTSIDE = {

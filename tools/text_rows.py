@@ -1,5 +1,5 @@
 #!/usr/bin/env python3
-"""Writes crates/pyd_value_tests/src/text/rows.rt: values, texts and calls, and what CPython answers.
+"""Writes crates/pyd_ops_tests/src/text/rows.rt: values, texts and calls, and what CPython answers.
 
 Run by hand at the top of the repository: python3 tools/text_rows.py
 The answers are CPython's. Those that the profile narrows are marked by the limit that they pass: a
@@ -102,5 +102,5 @@ table("INTEGERS", ["Integers or letters of faults, and texts of which `int` give
       ["%s=%s|\\" % (integer(text), escaped(text)) for text in NUMERALS])
 table("LINES", ["Places of arguments, and the line that `print` makes of them."],
       ["%s = %s" % (",".join(str(place(a)) for a in args), escaped(" ".join(map(str, args)))) for args in PRINTED])
-with open("crates/pyd_value_tests/src/text/rows.rt", "w", encoding="utf-8") as out:
+with open("crates/pyd_ops_tests/src/text/rows.rt", "w", encoding="utf-8") as out:
     out.write("\n".join(lines[:-1]) + "\n")

@@ -1,5 +1,5 @@
 #!/usr/bin/env python3
-"""Writes crates/pyd_script_tests/src/derivation/rows.rt: small sources, each with the tree that CPython's ast gives it.
+"""Writes crates/pyd_grammar_tests/src/derivation/rows.rt: small sources, each with the tree that CPython's ast gives it.
 
 A row is a source, in which the character U+00B6 stands for a line end, then U+2192 and the tree in a written form.
 Parentheses leave no trace in CPython's tree but the columns of what they enclose: a chain of operators is cut there.

@@ -1,15 +1,11 @@
-//! Tests of what a run over machines is made of.
+//! Tests of the words of a run: placers and runners, the trace and the command line.
 #![tactic(auto)]
 
 #[cfg(test)]
 mod board;
 mod callers;
 #[cfg(test)]
-mod pool;
-#[cfg(test)]
 mod trace;
-#[cfg(test)]
-mod turn;
 #[cfg(test)]
 mod words;
 

@@ -1,17 +1,11 @@
-//! Tests of what stands between the bytes of a source and its program.
+//! Tests of what stands between the bytes of a source and its program, but the grammar.
 #![tactic(auto)]
 
 mod callers;
 #[cfg(test)]
-mod derivation;
-#[cfg(test)]
 mod generated;
 #[cfg(test)]
-mod grammar;
-#[cfg(test)]
 mod lex;
-#[cfg(test)]
-mod measure;
 #[cfg(test)]
 mod names;
 #[cfg(test)]
@@ -20,8 +14,6 @@ mod reading;
 mod scope;
 #[cfg(test)]
 mod source;
-#[cfg(test)]
-mod syntax;
 #[cfg(test)]
 mod tree;
 

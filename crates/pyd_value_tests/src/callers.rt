@@ -1,15 +1,8 @@
-//! The callers that the pages of `pyd_value` and `pyd_ops` on calling show.
+//! The caller that the page of `pyd_value` on calling shows.
 ghost use Rattle.std.specs.Prelude.{◌≡◌, [], ◌∷◌, IfOk};
-ghost use Rattle.pyd_value.specs.declared.operator.BinOp.TheVariants.{Add};
-ghost use Rattle.pyd_value.specs.declared.operator.CmpOp.TheVariants.{Lt};
 ghost use Rattle.pyd_value.specs.declared.value.Value.{Tuple};
-ghost use Rattle.pyd_ops.specs.Answer.{Answers};
-ghost use Rattle.pyd_ops.specs.Calls.{and_then};
-ghost use Rattle.pyd_ops.specs.Comparing.{compare};
-ghost use Rattle.pyd_ops.specs.Operators.{binary};
 
-use pyd_ops::{binary, compare};
-use pyd_value::{BinOp, CmpOp, List, NoMemory, Outcome, Value, try_copy};
+use pyd_value::{List, NoMemory, Value, try_copy};
 use std::alloc::Global;
 
 /// The tuple of two values.
@@ -20,24 +13,4 @@ pub fn pair(alloc: Global, a: &Value, b: &Value) -> Result<Value, NoMemory>
     members.add(try_copy(alloc, a)?)?;
     members.add(try_copy(alloc, b)?)?;
     Ok(Value::Tuple(members))
-}
-
-/// The value of `a + b < c`, or the first fault.
-pub fn sum_is_less(
-    alloc: Global,
-    a: &Value,
-    b: &Value,
-    c: &Value,
-    at: u32,
-) -> Result<Outcome, NoMemory>
-    ensures { Answers result (and_then (binary Add a.now b.now at) (λ v. compare Lt v c.now at)) }
-{
-    match binary(alloc, BinOp::Add, a, b, at)? {
-        Outcome::Ok(sum) => {
-            let less = compare(CmpOp::Lt, &sum, c, at);
-            drop(sum);
-            Ok(less)
-        }
-        Outcome::Fault(fault) => Ok(Outcome::Fault(fault)),
-    }
 }

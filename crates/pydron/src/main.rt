@@ -1,31 +1,11 @@
 //! `pydron` runs or checks a script of standard input.
 #![tactic(auto)]
 
-mod check;
-mod check_source;
-mod conclusion;
-mod laws;
-mod lines;
-mod mode;
-mod report;
-mod run;
-mod source_stop;
-mod status;
-#[cfg(test)]
-mod tests;
-mod top;
-
-pub use check_source::check_source;
-use conclusion::Conclusion;
-pub use laws::{one_answer, one_work};
-pub use mode::Mode;
 use pyd_source::{StdSink, StdSource};
-pub use source_stop::SourceStop;
-pub use status::{Ended, Status};
+use pyd_top::{Conclusion, end_with, pydron_here};
 use std::alloc::Global;
 use std::process::ExitCode;
 use std::{env, io};
-pub use top::pydron_here;
 
 fn main(rt: HostRuntime) -> ExitCode {
     let mut err = StdSink::new(rt.stderr());
@@ -35,7 +15,7 @@ fn main(rt: HostRuntime) -> ExitCode {
             let out = StdSink::new(rt.stdout());
             pydron_here(rt.alloc(), &words, &mut source, out, &mut err, &[]).status
         }
-        Err(conclusion) => top::report(&mut err, conclusion),
+        Err(conclusion) => end_with(&mut err, conclusion),
     };
     ExitCode::from(status.code())
 }

@@ -1,6 +1,0 @@
-use Rattle.pydron.proofs.Concluding.{evaluated}
-use Rattle.pydron.proofs.run.run_program.Goals as goal
-
-pub returns-clause-concludes : goal.returns-clause-concludes
-returns-clause-concludes g c =
-    evaluated c.args.bytes.now c.args.program.now _ c.evaluate.result c.requires.fits c.requires.accepted c.evaluate.ensures.evaluated
