@@ -85,3 +85,11 @@ pub mod Links
 pub mod Members
 pub mod SideForms
 pub mod Pieces
+pub mod Settings
+pub mod Walked
+pub mod SlotsSet
+pub mod TargetsBound
+pub mod StatementFlows
+pub mod BindingFlows
+pub mod PassageFlows
+pub mod StartPlaces

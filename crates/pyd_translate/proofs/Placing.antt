@@ -50,7 +50,7 @@ sized_arms (a ∷ arms) n =
     sized_both (arm_contents a) (arms_contents arms) (sized_arm a) (sized_arms arms) n
 
 -- behind nothing a place is the same
-past_nothing : (p : Point) → past nothing p ≡ p
+pub past_nothing : (p : Point) → past nothing p ≡ p
 past_nothing p =
     let statement : p.statement + 0 ≡ p.statement = omega arith in
     let number : p.expression + 0 ≡ p.expression = omega arith in

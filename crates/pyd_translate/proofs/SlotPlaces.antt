@@ -1,9 +1,9 @@
--- The argument of a name lies at the place of its slot.
+-- The argument of a name lies at the place of its slot, and is put there.
 use Rattle.std.proofs.Common.{◌≡◌, ℕ, zero, suc, ◌+◌, ◌-◌, ◌≤◌, List, [], ◌∷◌, Bool, true, false, cond, if◌then◌else◌, refl, sym, ap, ◌∙◌, arith, Option, Some, None}
-use Rattle.std.specs.List.{slice_get, position_from}
+use Rattle.std.specs.List.{slice_get, slice_set, position_from}
 use Rattle.pyd_names.specs.Binding.{same_name}
 use Rattle.pyd_ir.specs.declared.arg.Arg.{Arg}
-use Rattle.pyd_translate.specs.Slots.{arg_of}
+use Rattle.pyd_translate.specs.Slots.{arg_of, set_slot}
 use Rattle.pyd_translate.specs.Drafts.{or_unbound}
 
 -- a place that is counted from a number is not below it
@@ -59,3 +59,32 @@ pub arg_at : (slots : List (List ℕ)) (env : List Arg) (name : List ℕ) (i : �
 arg_at slots env name i is =
     let e : i - 0 ≡ i = omega arith in
     arg_from slots env name 0 i is ∙ ap (λ j. or_unbound (slice_get env j)) e
+
+put_here : (t : Bool) (slots : List (List ℕ)) (name : List ℕ) (a b : Arg) (env : List Arg) (n i : ℕ)
+    → (position_from (same_name name) (n + 1) slots ≡ Some i → slice_set env (i - (n + 1)) b ≡ set_slot slots env name b)
+    → cond t (Some n) (position_from (same_name name) (n + 1) slots) ≡ Some i
+    → slice_set (a ∷ env) (i - n) b ≡ (if t then b ∷ env else a ∷ set_slot slots env name b)
+put_here true slots name a b env n i later is =
+    let same : n ≡ i = cc in
+    let e : i - n ≡ 0 = omega arith in
+    ap (λ j. slice_set (a ∷ env) j b) e
+put_here false slots name a b env n i later is =
+    let le : n + 1 ≤ i = least_place (same_name name) (n + 1) slots i is in
+    let e : i - n ≡ suc (i - (n + 1)) = omega arith in
+    ap (λ j. slice_set (a ∷ env) j b) e ∙ ap (λ xs. a ∷ xs) (later is)
+
+put_from : (slots : List (List ℕ)) (env : List Arg) (name : List ℕ) (b : Arg) (n i : ℕ)
+    → position_from (same_name name) n slots ≡ Some i
+    → slice_set env (i - n) b ≡ set_slot slots env name b
+put_from [] env name b n i is = cc
+put_from (slot ∷ slots) [] name b n i is = refl
+put_from (slot ∷ slots) (a ∷ env) name b n i is =
+    put_here (same_name name slot) slots name a b env n i (put_from slots env name b (n + 1) i) is
+
+-- an argument is put in a name's slot
+pub slot_put : (slots : List (List ℕ)) (env : List Arg) (name : List ℕ) (b : Arg) (i : ℕ)
+    → position_from (same_name name) 0 slots ≡ Some i
+    → slice_set env i b ≡ set_slot slots env name b
+slot_put slots env name b i is =
+    let e : i ≡ i - 0 = omega arith in
+    ap (λ j. slice_set env j b) e ∙ put_from slots env name b 0 i is

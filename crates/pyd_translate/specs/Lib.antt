@@ -5,8 +5,10 @@ pub mod Expressions
 pub mod Sides
 pub mod Drafts
 pub mod Statements
+pub mod Flows
 pub mod Rests
 pub mod Starts
+pub mod Scripts
 pub mod Walk
 pub mod Matching
 pub mod Naming

@@ -35,7 +35,7 @@ pub(crate) fn append(alloc: Global, args: &mut List<Arg>, more: &[Arg]) -> Resul
 }
 
 /// Copies of arguments.
-pub(crate) fn copies(alloc: Global, args: &[Arg]) -> Result<List<Arg>, NoMemory>
+pub fn copies(alloc: Global, args: &[Arg]) -> Result<List<Arg>, NoMemory>
     ensures { IfOk result (λ list. list ≡ args.now) }
 {
     let mut list = List::new(alloc);

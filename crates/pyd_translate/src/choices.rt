@@ -4,7 +4,7 @@ ghost use Rattle.pyd_translate.specs.Drafts as drafts;
 ghost use Rattle.pyd_translate.specs.Drafts.{Makes, context_of, file_of};
 ghost use Rattle.pyd_translate.specs.Expressions as spec;
 
-use crate::arguments::pair;
+use crate::arguments::{copies, pair};
 use crate::context::Context;
 use crate::counting::behind;
 use crate::draft::{Draft, emit, emit_value, operator, value_of};
@@ -32,7 +32,7 @@ pub(crate) fn choose(
     ensures { IfOk result (λ a.
         Makes draft.old (spec.choose (context_of at.now) test yes no) draft.new (Some a)) }
 {
-    match at.env.try_clone() {
+    match copies(at.alloc, at.env) {
         Ok(env) => emit_value(at, Work::Pick { test, yes, no, env }, draft),
         Err(NoMemory) => {
             drop(test);

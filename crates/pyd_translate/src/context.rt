@@ -9,18 +9,17 @@ ghost use Rattle.pyd_translate.specs.Drafts.{context_of};
 use pyd_ir::Arg;
 use pyd_scope::{Program, Routine};
 use pyd_tree::Expr;
-use pyd_value::List;
 use std::alloc::Global;
 
 /// A line of a routine of a program that was called at a depth, with the arguments of its slots.
 #[derive(Clone, Copy)]
-pub(crate) struct Context<'a> {
+pub struct Context<'a> {
     pub alloc: Global,
     pub program: &'a Program,
     pub routine: u32,
     pub depth: u32,
     pub line: u32,
-    pub env: &'a List<Arg>,
+    pub env: &'a [Arg],
 }
 
 impl<'a> Context<'a> {

@@ -12,13 +12,13 @@ use pyd_value::{Fault, Kind, List, NoMemory};
 
 /// The nodes so far, and the first number that no node has.
 #[derive(Drop)]
-pub(crate) struct Draft {
+pub struct Draft {
     pub nodes: List<Node>,
     pub next: u64,
 }
 
 /// One node more, and its number.
-pub(crate) fn emit(at: &Context<'_>, work: Work, draft: &mut Draft) -> Result<u64, NoMemory>
+pub fn emit(at: &Context<'_>, work: Work, draft: &mut Draft) -> Result<u64, NoMemory>
     ensures { IfOk result (λ id.
         Makes draft.old (spec.emit (context_of at.now) work) draft.new (Some id)) }
 {
@@ -43,7 +43,7 @@ pub(crate) fn emit(at: &Context<'_>, work: Work, draft: &mut Draft) -> Result<u6
 }
 
 /// One node more, and its value.
-pub(crate) fn emit_value(at: &Context<'_>, work: Work, draft: &mut Draft) -> Result<Arg, NoMemory>
+pub fn emit_value(at: &Context<'_>, work: Work, draft: &mut Draft) -> Result<Arg, NoMemory>
     ensures { IfOk result (λ a.
         Makes draft.old (spec.emit_value (context_of at.now) work) draft.new (Some a)) }
 {
@@ -52,7 +52,7 @@ pub(crate) fn emit_value(at: &Context<'_>, work: Work, draft: &mut Draft) -> Res
 }
 
 /// The value of a node that is no composite with slots.
-pub(crate) fn value_of(id: u64) -> Arg
+pub fn value_of(id: u64) -> Arg
     ensures { result ≡ arg.From (spec.port id 0) }
 {
     Arg::From(Ref { node: id, port: 0 })
@@ -72,7 +72,7 @@ pub(crate) fn operator(
 }
 
 /// A Stop that raises an exception in the line.
-pub(crate) fn stop_by(at: &Context<'_>, kind: Kind, draft: &mut Draft) -> Result<(), NoMemory>
+pub fn stop_by(at: &Context<'_>, kind: Kind, draft: &mut Draft) -> Result<(), NoMemory>
     ensures { IfOk result (λ stopped.
         Makes draft.old (spec.stop_by {A = AnArg} (context_of at.now) kind) draft.new None) }
 {

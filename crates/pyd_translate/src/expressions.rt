@@ -19,7 +19,7 @@ use pyd_value::{List, NoMemory, try_copy};
 
 /// The nodes of expression number `k` and its value, or none behind a Stop.
 #[cycle(build)]
-pub(crate) fn build(
+pub fn build(
     at: &Context<'_>,
     k: u32,
     e: &Expr,

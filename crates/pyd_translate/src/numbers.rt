@@ -13,6 +13,13 @@ pub(crate) fn plus(a: u32, b: u32) -> Result<u32, NoMemory>
     }
 }
 
+/// A number of 32 bits, or want of memory where it takes more.
+pub(crate) fn number(n: usize) -> Result<u32, NoMemory>
+    ensures { IfOk result (λ m. m ≡ n) }
+{
+    u32::try_from(n).map_err(|_| NoMemory)
+}
+
 /// The next number.
 pub(crate) fn next(a: u32) -> Result<u32, NoMemory>
     ensures { IfOk result (λ n. n ≡ suc a) }

@@ -17,7 +17,7 @@ use pyd_tree::{CmpOp, Expr};
 use pyd_value::{Kind, NoMemory};
 
 /// The nodes of a side and its value, or none behind a Stop.
-pub(crate) fn build_side(
+pub fn build_side(
     at: &Context<'_>,
     side: &Side,
     draft: &mut Draft,
@@ -153,7 +153,7 @@ fn build_links_left(
 }
 
 /// The items before a place.
-fn before<T>(items: &[T], at: u32) -> &[T]
+pub(crate) fn before<T>(items: &[T], at: u32) -> &[T]
     ensures { result.now ≡ take at items.now }
 {
     let at = at as usize;
