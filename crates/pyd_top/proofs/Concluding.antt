@@ -5,6 +5,7 @@ use Rattle.pyd_value.specs.declared.fault.End.{End}
 use Rattle.pyd_value.specs.declared.fault.End.TheVariants as ending
 use Rattle.pyd_grammar.specs.Limits.{longest_source}
 use Rattle.pyd_scope.specs.declared.program.Program.{Program}
+use Rattle.pyd_graph.specs.ScriptGraph.{graph_text}
 use Rattle.pyd_top.specs.declared.mode.Mode.{Mode}
 use Rattle.pyd_top.specs.declared.mode.Mode.TheVariants as mode
 use Rattle.pyd_top.specs.declared.source_stop.SourceStop.{SourceStop}
@@ -70,10 +71,31 @@ pub broken_off : (input : List ℕ) (p : Program) (out : Stream) → Fits input 
 broken_off input p out fits accepted put failed words source chosen read =
     fails words mode.Check input (summary p) conclusion.Done out chosen (approves input p fits accepted) put failed
 
+-- what `graph` makes of an accepted source
+pub draws : (input : List ℕ) (p : Program) → Fits input → Accepted input p → Makes mode.Graph input (graph_text p.file) conclusion.Done
+draws input p fits accepted =
+    inl (record { program = p; fits = fits; accepted = accepted; output_is = refl; conclusion_is = refl })
+
+-- a graph that was put
+pub drawn : (input : List ℕ) (p : Program) (out : Stream) → Fits input → Accepted input p → Gained out (graph_text p.file) → ConcludesRead mode.Graph input out conclusion.Done
+drawn input p out fits accepted put words source chosen read =
+    record { output = graph_text p.file; made = made words mode.Graph input (graph_text p.file) conclusion.Done chosen (draws input p fits accepted); put = put; read = read }
+
+-- a graph of which some was put, since the sink failed
+pub drawn_off : (input : List ℕ) (p : Program) (out : Stream) → Fits input → Accepted input p → GainedPart out (graph_text p.file) → HasFailed out → ConcludesRead mode.Graph input out conclusion.SinkFault
+drawn_off input p out fits accepted put failed words source chosen read =
+    fails words mode.Graph input (graph_text p.file) conclusion.Done out chosen (draws input p fits accepted) put failed
+
+-- a graph of which some was put, since memory ran out
+pub drawn_part : (input : List ℕ) (p : Program) (out : Stream) → Fits input → Accepted input p → GainedPart out (graph_text p.file) → ConcludesRead mode.Graph input out conclusion.NoMemory
+drawn_part input p out fits accepted put words source chosen read =
+    inr (record { output = graph_text p.file; conclusion = conclusion.Done; made = made words mode.Graph input (graph_text p.file) conclusion.Done chosen (draws input p fits accepted); put = put })
+
 -- every mode refuses a source that is refused
 pub refuses : (m : Mode) (input : List ℕ) (s : SourceStop) → IsRefused input s → Makes m input [] (stopped_by s)
 refuses mode.Run input s is = inr (record { stop = s; refused = is; conclusion_is = refl; silent = refl })
 refuses mode.Check input s is = inr (record { stop = s; refused = is; conclusion_is = refl; silent = refl })
+refuses mode.Graph input s is = inr (record { stop = s; refused = is; conclusion_is = refl; silent = refl })
 
 refused : (words : List (String Global)) (m : Mode) (input : List ℕ) (source out : Stream) (s : SourceStop) → IsRefused input s → Gained out [] → Choose words m → IsRead input source
     → PutsAll words input (stopped_by s) source out

@@ -1,5 +1,5 @@
 -- What is promised at each status follows from how a call concludes and reports.
-use Rattle.std.proofs.Common.{◌≡◌, ◌≢◌, ◌⊎◌, ℕ, List, [], ◌∷◌, length, arith, refl, ap, sym, ◌∙◌, subst, inl, inr, String}
+use Rattle.std.proofs.Common.{◌≡◌, ◌≢◌, ◌⊎◌, ℕ, List, [], ◌∷◌, length, get_or, arith, refl, ap, sym, ◌∙◌, subst, inl, inr, String}
 use Rattle.std.specs.declared.alloc.Global.{Global}
 use Rattle.pyd_value.specs.declared.fault.Kind.{Kind}
 use Rattle.pyd_value.specs.declared.fault.Limit.{Limit}
@@ -26,18 +26,21 @@ use Rattle.pyd_top.specs.Statuses.{status_of}
 use Rattle.pyd_top.specs.Streams.{Stream, HasFailed, Gained, GainedPart, IsUntouched, IsRead}
 use Rattle.pyd_top.proofs.Concluding.{runs}
 
+-- the fourth letter of a word
+abbrev fourth : List ℕ → ℕ
+fourth word = get_or word 3 0
+
 -- the words choose one mode at most
 one_word : (m n : Mode) → word_of m ≡ word_of n → m ≡ n
 one_word mode.Run mode.Run same = refl
-one_word mode.Run mode.Check same = absurd (differ same)
-  where
-    differ : ¬ word_of mode.Run ≡ word_of mode.Check
-    differ e = let lengths : 3 ≡ 5 = ap length e in omega (arith, lengths)
-one_word mode.Check mode.Run same = absurd (differ same)
-  where
-    differ : ¬ word_of mode.Check ≡ word_of mode.Run
-    differ e = let lengths : 5 ≡ 3 = ap length e in omega (arith, lengths)
+one_word mode.Run mode.Check same = absurd (let lengths : 3 ≡ 5 = ap length same in omega (arith, lengths))
+one_word mode.Run mode.Graph same = absurd (let lengths : 3 ≡ 5 = ap length same in omega (arith, lengths))
+one_word mode.Check mode.Run same = absurd (let lengths : 5 ≡ 3 = ap length same in omega (arith, lengths))
 one_word mode.Check mode.Check same = refl
+one_word mode.Check mode.Graph same = absurd (let letters : 99 ≡ 112 = ap fourth same in omega (arith, letters))
+one_word mode.Graph mode.Run same = absurd (let lengths : 5 ≡ 3 = ap length same in omega (arith, lengths))
+one_word mode.Graph mode.Check same = absurd (let letters : 112 ≡ 99 = ap fourth same in omega (arith, letters))
+one_word mode.Graph mode.Graph same = refl
 
 one_mode : (words : List (String Global)) (m n : Mode) → Choose words m → Choose words n → m ≡ n
 one_mode words m n p q =
@@ -86,6 +89,8 @@ silent mode.Run input output c refused (inl e) = absurd (no_end (script_end e.pr
 silent mode.Run input output c refused (inr r) = r.silent
 silent mode.Check input output c refused (inl a) = let e : status.Done ≡ status.Refused = ap status_of (sym a.conclusion_is) ∙ refused in absurd cc
 silent mode.Check input output c refused (inr r) = r.silent
+silent mode.Graph input output c refused (inl a) = let e : status.Done ≡ status.Refused = ap status_of (sym a.conclusion_is) ∙ refused in absurd cc
+silent mode.Graph input output c refused (inr r) = r.silent
 
 -- all that was put and said is what the mode makes
 served : (words : List (String Global)) (input : List ℕ) (c : Conclusion) (s : Status) (source out err : Stream) → (p : PutsAll words input c source out) → s ≡ status_of c → Gained err (error_of c)
@@ -133,6 +138,8 @@ ran words mode.Run input output e source out err faulty chosen (inl made) put li
 ran words mode.Run input output e source out err faulty chosen (inr refused) put line read = absurd (no_stop e refused.stop refused.conclusion_is)
 ran words mode.Check input output e source out err faulty chosen (inl made) put line read = absurd (faulty (one_name e ending.Finished made.conclusion_is))
 ran words mode.Check input output e source out err faulty chosen (inr refused) put line read = absurd (no_stop e refused.stop refused.conclusion_is)
+ran words mode.Graph input output e source out err faulty chosen (inl made) put line read = absurd (faulty (one_name e ending.Finished made.conclusion_is))
+ran words mode.Graph input output e source out err faulty chosen (inr refused) put line read = absurd (no_stop e refused.stop refused.conclusion_is)
 
 raised : (words : List (String Global)) (input : List ℕ) (s : Status) (source out err : Stream) (c : Conclusion) → Concludes words input source out c → Reports c s err → s ≡ status.Raised
     → (kind : Kind) × (line : ℕ) × IsRunTo words input (ending.Raised kind line) source out err

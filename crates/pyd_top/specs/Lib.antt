@@ -3,6 +3,7 @@ pub mod Checking
 pub mod Conclusion
 pub mod Correct
 pub mod Errors
+pub mod Graphing
 pub mod Laws
 pub mod Lines
 pub mod Modes

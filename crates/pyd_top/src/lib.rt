@@ -4,6 +4,7 @@
 mod accepting;
 mod check;
 mod conclusion;
+mod graph;
 mod laws;
 mod lines;
 mod mode;

@@ -7,13 +7,13 @@ ghost use Rattle.pyd_top.specs.declared.lines.Halt.TheVariants.{NoMemory, SinkFa
 ghost use Rattle.pyd_top.specs.Lines.{line_bytes, Gathers};
 
 use pyd_source::{Short, Sink, put_all};
-use pyd_value::Text;
+use pyd_value::{NoMemory, Text};
 use std::alloc::{AllocError, AllocFailed, Global};
 
 /// How many bytes wait before they are put out together.
 const GATHERED: usize = 65536;
 
-/// Why lines weren't put to their end.
+/// Why a text wasn't put to its end.
 #[derive(Clone, Copy, Debug, PartialEq, Eq)]
 pub(crate) enum Halt {
     /// The sink failed.
@@ -33,6 +33,14 @@ impl<T: Drop> From<AllocFailed<T>> for Halt {
     ghost from_gives = { λ _ halt. halt ≡ NoMemory };
 
     fn from(_: AllocFailed<T>) -> Self {
+        Halt::NoMemory
+    }
+}
+
+impl From<NoMemory> for Halt {
+    ghost from_gives = { λ _ halt. halt ≡ NoMemory };
+
+    fn from(_: NoMemory) -> Self {
         Halt::NoMemory
     }
 }

@@ -9,6 +9,8 @@ pub enum Mode {
     Run,
     /// Says whether it is accepted, or its first fault.
     Check,
+    /// Writes the graph that it begins with.
+    Graph,
 }
 
 impl Mode {
@@ -22,6 +24,9 @@ impl Mode {
         }
         if is_alone(words, "check") {
             return Some(Mode::Check);
+        }
+        if is_alone(words, "graph") {
+            return Some(Mode::Graph);
         }
         None
     }

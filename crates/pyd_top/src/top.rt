@@ -8,6 +8,7 @@ ghost use Rattle.pyd_top.specs.Streams.{stream, IsInput};
 use crate::accepting::LONGEST;
 use crate::check::check;
 use crate::conclusion::Conclusion;
+use crate::graph::graph;
 use crate::laws::one_work;
 use crate::mode::Mode;
 use crate::report::put_error;
@@ -94,5 +95,6 @@ fn serve<K: Sink>(alloc: Global, mode: Mode, bytes: &[u8], out: &mut K) -> Concl
     match mode {
         Mode::Run => run(alloc, bytes, out),
         Mode::Check => check(alloc, bytes, out),
+        Mode::Graph => graph(alloc, bytes, out),
     }
 }

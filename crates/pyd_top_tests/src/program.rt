@@ -21,10 +21,18 @@ const RUN: &[&str] = &["run"];
 
 const CHECK: &[&str] = &["check"];
 
+const GRAPH: &[&str] = &["graph"];
+
+/// A source, and the graph that it begins with. For a line end stands ¶.
+const GRAPHS: &str = "x = 1 + 2¶if x > 2:¶    print(x * 2)→0 1 Add 1 2¶1 2 Gt #0.0 2¶2 2 Cond #1.0¶
+from pydron import schedule, functional¶¶@functional¶@schedule¶def f(a):¶    return a¶¶print(f(1))→0 8 Enter f 1¶1 8 Print #0.0¶
+pass→";
+
 const WORDS: &[&[&str]] = &[
     &[],
     &["fly"],
     &["check", "run"],
+    &["graph", "run"],
     &["Run"],
     &["run", "x"],
     &["run", "run"],
@@ -155,6 +163,31 @@ fn scripts_are_run(rt: HostRuntime) -> Result<(), Fail> {
         let right = is_run(rt.alloc(), source, output, error)?;
         assert!(rt; right, "{row}");
     }
+    Ok(())
+}
+
+/// Whether mode `graph` puts this graph for a source, and reads it to its end.
+fn is_drawn(alloc: Global, source: &str, graph: &str) -> Result<bool, Fail> {
+    let source = unfolded(alloc, source)?;
+    let graph = unfolded(alloc, graph)?;
+    let ran = run_over(alloc, GRAPH, source.as_bytes(), SMOOTH)?;
+    Ok(ran.left == 0 && gave(&ran, Status::Done, graph.as_str(), ""))
+}
+
+#[test]
+fn graphs_are_written(rt: HostRuntime) -> Result<(), Fail> {
+    for row in GRAPHS.lines() {
+        let (source, graph) = row.split_once('\u{2192}').unwrap_or((row, ""));
+        let right = is_drawn(rt.alloc(), source, graph)?;
+        assert!(rt; right, "{row}");
+    }
+    Ok(())
+}
+
+#[test]
+fn a_source_that_is_refused_has_no_graph(rt: HostRuntime) -> Result<(), Fail> {
+    let ran = run_over(rt.alloc(), GRAPH, b"x = len", SMOOTH)?;
+    assert!(rt; gave(&ran, Status::Refused, "", "REFUSED FunctionValue: line 1\n"));
     Ok(())
 }
 

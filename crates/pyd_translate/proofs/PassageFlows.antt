@@ -78,9 +78,11 @@ module _ (file : File) (routine : ℕ) where
       → (behind ≡ passage_behind here)
       × StandsAt (table file routine) (expression_table file routine) (contents behind.stmts) behind.point
   behind_stands here behind s first st is =
-      let same : behind ≡ passage_behind here = is ∙ ap passage_behind (passage_found here s first st) in
-      (same, subst (λ b. StandsAt (table file routine) (expression_table file routine) (contents b.stmts) b.point)
-      (sym same) (behind_at (table file routine) (expression_table file routine) here.stmts here.point st))
+      let same : behind ≡ passage_behind here = is ∙ ap passage_behind (passage_found here s first st) in (
+        same,
+        subst (λ b. StandsAt (table file routine) (expression_table file routine) (contents b.stmts) b.point)
+            (sym same) (behind_at (table file routine) (expression_table file routine) here.stmts here.point st),
+      )
 
   -- what follows a statement stands in the routine
   pub number_behind : (k : ℕ) (behind : Passage) → behind ≡ passage_behind (passage_at file routine k)

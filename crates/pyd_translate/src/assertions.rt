@@ -76,7 +76,13 @@ fn build_message(
             let behind = past_expression(test, at.point)?;
             let copy = value.try_copy(at.setting.alloc)?;
             let nothing = Side::Arg(Arg::Known(Value::None));
-            drop(choose(&at.context(env), copy, nothing, Side::Expr(behind.expression), draft)?);
+            drop(choose(
+                &at.context(env),
+                copy,
+                nothing,
+                Side::Expr(behind.expression),
+                draft,
+            )?);
             Ok(())
         }
         None => Ok(()),

@@ -35,11 +35,7 @@ pub(crate) fn build_composite(
         (composite_at at.now composite control env.old.items) draft.new flow env.new.items) }
 {
     if at.early {
-        match framed(
-            at.setting.alloc,
-            Frame::After(at.point.statement),
-            at.rest,
-        ) {
+        match framed(at.setting.alloc, Frame::After(at.point.statement), at.rest) {
             Ok(rest) => {
                 let value = build_last(at, composite, control, rest, env, draft)?;
                 Ok(Flow::Ended(value))

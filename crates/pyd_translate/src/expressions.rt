@@ -19,12 +19,7 @@ use pyd_value::{List, NoMemory, try_copy};
 
 /// The nodes of expression number `k` and its value, or none behind a Stop.
 #[cycle(build)]
-pub fn build(
-    at: &Context<'_>,
-    k: u32,
-    e: &Expr,
-    draft: &mut Draft,
-) -> Result<Option<Arg>, NoMemory>
+pub fn build(at: &Context<'_>, k: u32, e: &Expr, draft: &mut Draft) -> Result<Option<Arg>, NoMemory>
     ensures { IfOk result (λ got. Makes draft.old
         (spec.expression_unfolds (file_of at.now) e.now k (context_of at.now)) draft.new got) }
 {

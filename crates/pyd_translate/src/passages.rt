@@ -160,7 +160,9 @@ fn build_again(
     };
     match &stmt.what {
         What::While(test, _body) => Ok(Flow::Ended(again_while(&spot, test, turns, env, draft)?)),
-        What::For(_targets, _e, _body) => Ok(Flow::Ended(again_for(&spot, over, turns, env, draft)?)),
+        What::For(_targets, _e, _body) => Ok(Flow::Ended(again_for(
+            &spot, over, turns, env, draft,
+        )?)),
         What::Expr(_)
         | What::Assign(_, _)
         | What::Aug(_, _, _)

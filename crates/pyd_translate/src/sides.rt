@@ -17,11 +17,7 @@ use pyd_tree::{CmpOp, Expr};
 use pyd_value::{Kind, NoMemory};
 
 /// The nodes of a side and its value, or none behind a Stop.
-pub fn build_side(
-    at: &Context<'_>,
-    side: &Side,
-    draft: &mut Draft,
-) -> Result<Option<Arg>, NoMemory>
+pub fn build_side(at: &Context<'_>, side: &Side, draft: &mut Draft) -> Result<Option<Arg>, NoMemory>
     ensures { IfOk result (λ got. Makes draft.old
         (spec.side_unfolds (file_of at.now) side.now (context_of at.now)) draft.new got) }
 {

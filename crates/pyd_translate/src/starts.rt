@@ -8,12 +8,11 @@ ghost use Rattle.pyd_translate.specs.Rests.{block_unfolds};
 ghost use Rattle.pyd_translate.specs.Starts as spec;
 ghost use Rattle.pyd_translate.specs.Statements.{done};
 
-use crate::Start;
 use crate::draft::Draft;
 use crate::passages::build_block;
-use crate::setting;
 use crate::setting::{Passage, Point, Setting};
 use crate::sides::before;
+use crate::{Start, setting};
 use pyd_ir::{Arg, Frame};
 use pyd_scope::Stmts;
 use pyd_tree::{Arm, Block, Expr, What};
@@ -161,7 +160,10 @@ fn else_suite<'a>(
         (past (arms_contents arms.now) (inside (point_of point)))) }
 {
     match otherwise {
-        Some(block) => Ok(suite(block, setting::past_arms(at, arms, setting::inside(point)?)?)),
+        Some(block) => Ok(suite(
+            block,
+            setting::past_arms(at, arms, setting::inside(point)?)?,
+        )),
         None => Ok(no_passage()),
     }
 }
@@ -192,11 +194,7 @@ fn suite_of_loop<'a>(at: &Setting<'a>, stmt: u32) -> Result<Passage<'a>, NoMemor
 }
 
 /// The suite of a loop that begins at a place.
-fn loop_suite<'a>(
-    header: &Expr,
-    body: &'a Block,
-    point: Point,
-) -> Result<Passage<'a>, NoMemory>
+fn loop_suite<'a>(header: &Expr, body: &'a Block, point: Point) -> Result<Passage<'a>, NoMemory>
     ensures { IfOk result (λ here. passage_of here
         ≡ spec.suite body.now (past_expression header.now (inside (point_of point)))) }
 {

@@ -1,4 +1,4 @@
-//! `pydron` runs or checks a script of standard input.
+//! `pydron` runs or checks a script of standard input, or writes its graph.
 #![tactic(auto)]
 
 use pyd_source::{StdSink, StdSource};

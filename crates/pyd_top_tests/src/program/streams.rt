@@ -49,6 +49,15 @@ pub(crate) const FAILING: &[Failing] = &[
         error: "",
     },
     Failing {
+        word: "graph",
+        source: "print(1 + 2)",
+        stream: Stream::Source,
+        pieces: &[12, 1],
+        status: Status::Done,
+        output: "0 1 Add 1 2\n1 1 Print #0.0\n",
+        error: "",
+    },
+    Failing {
         word: "run",
         source: "print(12345)",
         stream: Stream::Out,
@@ -73,6 +82,15 @@ pub(crate) const FAILING: &[Failing] = &[
         pieces: &[4, 1, 12, 1, 11],
         status: Status::Done,
         output: "ok: 0 functions, 1 constants\n",
+        error: "",
+    },
+    Failing {
+        word: "graph",
+        source: "print(1 + 2)",
+        stream: Stream::Out,
+        pieces: &[27],
+        status: Status::Done,
+        output: "0 1 Add 1 2\n1 1 Print #0.0\n",
         error: "",
     },
     Failing {

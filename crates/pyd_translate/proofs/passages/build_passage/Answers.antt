@@ -15,13 +15,15 @@ loop-stmt-init c = (c.requires, λ leave next. refl)
 
 pub loop-stmt-preserved : goal.loop-stmt-preserved
 loop-stmt-preserved c =
-    let stands = behind_stands (file_in c.args.at.now) c.args.at.now.routine (passage_of c.loop-stmt.here) (passage_of c.behind-here.result) c.in-Some.stmt.now c.in-Some.ensures c.loop-stmt.invariant.0 c.behind-here.ensures in
-    (stands.1, λ leave next.
-    ap (λ (p : Passage). onto c.build_statement.new.draft.nodes (passage_unfolds (file_in c.args.at.now) c.args.at.now.routine c.args.at.now.depth p c.args.rest.now (leaving (sequel_of c.args.rest.now leave next))
-    c.build_statement.new.env.items c.build_statement.new.draft.next)) stands.0
-    ∙ sym (passage_exit (file_in c.args.at.now) c.args.at.now.routine c.args.at.now.depth c.args.rest.now _ _ _ _ c.loop-stmt.env.items _
-    (passage_of c.loop-stmt.here) c.in-Some.stmt.now _ _ c.in-Some.ensures c.may_leave.ensures c.in_ok-flow.ensures (Left exit.Normal) (c.in-Left.is ∙ ap (λ x. Left x) c.in-Normal.is) (leaving (sequel_of c.args.rest.now leave next)))
-    ∙ c.loop-stmt.invariant.1 leave next)
+    let stands = behind_stands (file_in c.args.at.now) c.args.at.now.routine (passage_of c.loop-stmt.here) (passage_of c.behind-here.result) c.in-Some.stmt.now c.in-Some.ensures c.loop-stmt.invariant.0 c.behind-here.ensures in (
+      stands.1,
+      λ leave next.
+          ap (λ (p : Passage). onto c.build_statement.new.draft.nodes (passage_unfolds (file_in c.args.at.now) c.args.at.now.routine c.args.at.now.depth p c.args.rest.now (leaving (sequel_of c.args.rest.now leave next))
+          c.build_statement.new.env.items c.build_statement.new.draft.next)) stands.0
+          ∙ sym (passage_exit (file_in c.args.at.now) c.args.at.now.routine c.args.at.now.depth c.args.rest.now _ _ _ _ c.loop-stmt.env.items _
+          (passage_of c.loop-stmt.here) c.in-Some.stmt.now _ _ c.in-Some.ensures c.may_leave.ensures c.in_ok-flow.ensures (Left exit.Normal) (c.in-Left.is ∙ ap (λ x. Left x) c.in-Normal.is) (leaving (sequel_of c.args.rest.now leave next)))
+          ∙ c.loop-stmt.invariant.1 leave next,
+    )
 
 pub returns-in-Break : goal.returns-in-Break
 returns-in-Break c =
