@@ -1,0 +1,10 @@
+mod Images
+mod Numbers
+mod Ported
+mod Standing
+mod Written
+mod Lined
+mod Logs
+mod Storing
+mod Moving
+mod Cleared
