@@ -22,3 +22,10 @@ pub mod Stocking
 pub mod Later
 pub mod Supply
 pub mod SlotPorts
+pub mod Ended
+pub mod StatementKinds
+pub mod Spans
+pub mod Spanned
+pub mod CondForms
+pub mod PickForms
+pub mod LoopForms

@@ -6,3 +6,5 @@ pub mod Laws
 pub mod Rules
 pub mod Supply
 pub mod SlotPorts
+pub mod Drafts
+pub mod Found

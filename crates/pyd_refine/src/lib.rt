@@ -1,7 +1,12 @@
 //! The nodes that take the place of a composite, and what refining keeps.
 #![tactic(auto)]
 
+mod cond;
+mod item;
 mod laws;
+mod pick;
+mod stop;
+mod turn;
 
 pub use laws::{
     found_law, piece_law, piece_order_law, ready_law, refine_law, rule_laws, substitution_law,
