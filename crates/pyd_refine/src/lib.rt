@@ -9,6 +9,6 @@ mod stop;
 mod turn;
 
 pub use laws::{
-    found_law, piece_law, piece_order_law, ready_law, refine_law, rule_laws, substitution_law,
-    supply_law,
+    found_law, piece_law, piece_order_law, piece_ports_law, ready_law, refine_law,
+    refined_ports_law, rule_laws, substitution_law, supply_law,
 };
