@@ -1,13 +1,13 @@
 -- The numbers of the nodes that pass a test, as those of the nodes that are so.
 use Rattle.std.proofs.Common.{◌≡◌, ℕ, ◌+◌, ◌<◌, nat_eq, List, [], ◌∷◌, ◌++◌, map, length, get_or, drop, Bool, true, false, cond, not, ◌&&◌, ◌⊎◌, inl, inr, Contains, refl, sym, ap, subst, ◌∙◌, append_assoc, arith}
-use Rattle.std.specs.List.{filter, list_any, IsDistinct, AllByRecursion}
+use Rattle.std.specs.List.{filter, IsDistinct, AllByRecursion}
 use Rattle.std.specs.BTreeSet.{BTreeSet}
 use Rattle.std.proofs.lemmas.List.{drop_more}
 use Rattle.std.proofs.lemmas.Bool.{eq-eqb}
 use Rattle.std.proofs.lemmas.List.Elements.{Contains-append_right}
 use Rattle.pyd_ir.specs.declared.node.Node.{Node}
 use Rattle.pyd_ir.specs.Arguments.{is_pure}
-use Rattle.pyd_lineage.specs.Lineage.{is_among, Reaches, IsInUse, IsInOrder, AreThose, IsNeeded, AreNeeded, AreUnreached}
+use Rattle.pyd_lineage.specs.Lineage.{is_among, Reaches, IsInOrder, AreThose, IsNeeded, AreNeeded, AreUnreached}
 use Rattle.pyd_lineage.specs.Marking.{has, IsSetOf, reached_names, numbers_where, is_missing, is_missed, is_left_out}
 use Rattle.pyd_lineage.proofs.Reaching.{here, behind, both_of, two_of, first_or_behind, marked_is_reached, reached_is_marked}
 

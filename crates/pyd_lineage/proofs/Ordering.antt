@@ -1,5 +1,5 @@
 -- A walk from the end of the list finds whether the nodes stand in order.
-use Rattle.std.proofs.Common.{◌≡◌, ℕ, nat_eq, List, [], ◌∷◌, ◌++◌, map, Bool, true, false, ◌||◌, inl, inr, Contains, refl, sym, ap, subst, ◌∙◌, arith}
+use Rattle.std.proofs.Common.{◌≡◌, ℕ, nat_eq, List, [], ◌∷◌, ◌++◌, map, Bool, true, false, ◌||◌, inl, inr, Contains, refl, sym, ap, ◌∙◌, arith}
 use Rattle.std.specs.List.{list_any, IsDistinct, AllByRecursion}
 use Rattle.std.specs.BTreeSet.{BTreeSet, IsDisjoint}
 use Rattle.std.specs.BTreeMap.{is_at}

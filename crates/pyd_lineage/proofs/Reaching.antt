@@ -1,9 +1,9 @@
 -- The marks that a walk from the end of the list leaves are the nodes that the chain reaches.
-use Rattle.std.proofs.Common.{◌≡◌, ℕ, zero, suc, nat_eq, List, [], ◌∷◌, ◌++◌, Bool, true, false, cond, not, ◌&&◌, ◌||◌, ◌⊎◌, inl, inr, Contains, refl, sym, ap, subst, ◌∙◌, arith}
+use Rattle.std.proofs.Common.{◌≡◌, ℕ, zero, suc, nat_eq, List, [], ◌∷◌, ◌++◌, Bool, true, false, cond, not, ◌&&◌, ◌||◌, ◌⊎◌, inl, inr, Contains, refl, sym, ap, ◌∙◌, arith}
 use Rattle.std.proofs.lemmas.List.Folds.{list_any-append}
 use Rattle.std.proofs.lemmas.List.Elements.{Contains-append_left}
 use Rattle.pyd_ir.specs.declared.node.Node.{Node}
-use Rattle.pyd_lineage.specs.Lineage.{named_nodes, is_among, names, Reaches, by_chain, by_past, IsInUse, NamesEarlier, IsInOrder}
+use Rattle.pyd_lineage.specs.Lineage.{named_nodes, is_among, names, Reaches, by_chain, by_past, IsInUse, NamesEarlier}
 use Rattle.pyd_lineage.specs.Marking.{chain_names, with_names, past_names, reached_names}
 
 -- the first item of a list, and one behind it

@@ -1,15 +1,14 @@
 -- What walks over the fields of a node and over the chain put into a set.
-use Rattle.std.proofs.Common.{◌≡◌, ℕ, suc, ◌+◌, ◌<◌, List, [], ◌∷◌, ◌++◌, length, get_or, drop, Bool, true, false, cond, not, ◌&&◌, refl, sym, ap, subst, ◌∙◌, arith}
+use Rattle.std.proofs.Common.{◌≡◌, ℕ, List, [], ◌∷◌, ◌++◌, Bool, true, false, cond, not, ◌&&◌, refl, sym, ap, subst, ◌∙◌}
 use Rattle.std.specs.List.{flat_map}
 use Rattle.std.specs.BTreeSet.{BTreeSet}
 use Rattle.std.proofs.lemmas.Grind.{flat_map-append}
-use Rattle.std.proofs.lemmas.List.{drop_more}
 use Rattle.pyd_ir.specs.declared.arg.Arg.{Arg}
 use Rattle.pyd_ir.specs.declared.work.Frame.{Frame}
 use Rattle.pyd_ir.specs.declared.node.Node.{Node}
-use Rattle.pyd_ir.specs.Arguments.{frame_arguments, rest_arguments, side_arguments}
-use Rattle.pyd_lineage.specs.Lineage.{named_by, named_nodes, is_among}
-use Rattle.pyd_lineage.specs.Marking.{has, Adds, IsSetOf, with_names, past_names}
+use Rattle.pyd_ir.specs.Arguments.{frame_arguments, rest_arguments}
+use Rattle.pyd_lineage.specs.Lineage.{named_by, named_nodes}
+use Rattle.pyd_lineage.specs.Marking.{has, Adds, IsSetOf, with_names}
 use Rattle.pyd_lineage.proofs.Sets.{adds_then, adds_to}
 
 -- what a frame names

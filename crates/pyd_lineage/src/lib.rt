@@ -6,7 +6,7 @@ mod marking;
 mod naming;
 mod numbers;
 
-pub use lineage::{needed, trim};
+pub use lineage::{needed, needed_among, trim, trim_among};
 
 #[cfg(test)]
 mod tests;

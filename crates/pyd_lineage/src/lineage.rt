@@ -23,11 +23,24 @@ pub fn needed(
     requires { IsInOrder past.now.nodes chain.now.nodes }
     ensures { IfOk result (AreNeeded past.now.nodes chain.now.nodes known.now) }
 {
+    needed_among(alloc, past.nodes.as_slice(), chain.nodes.as_slice(), known)
+}
+
+/// The same of nodes that stand in slices.
+pub fn needed_among(
+    alloc: Global,
+    past: &[Node],
+    chain: &[Node],
+    known: &[u64],
+) -> Result<List<u64>, NoMemory>
+    requires { IsInOrder past.now chain.now }
+    ensures { IfOk result (AreNeeded past.now chain.now known.now) }
+{
     let known = set_of(alloc, known)?;
-    let reached = reached(alloc, past.nodes.as_slice(), chain.nodes.as_slice(), &known)?;
+    let reached = reached(alloc, past, chain, &known)?;
     let mut numbers = List::new(alloc);
-    add_missed(&mut numbers, past.nodes.as_slice(), &known, &reached)?;
-    add_missing(&mut numbers, chain.nodes.as_slice(), &known)?;
+    add_missed(&mut numbers, past, &known, &reached)?;
+    add_missing(&mut numbers, chain, &known)?;
     Ok(numbers)
 }
 
@@ -36,9 +49,17 @@ pub fn trim(alloc: Global, past: &Past, chain: &Chain) -> Result<List<u64>, NoMe
     requires { IsInOrder past.now.nodes chain.now.nodes }
     ensures { IfOk result (AreUnreached past.now.nodes chain.now.nodes) }
 {
+    trim_among(alloc, past.nodes.as_slice(), chain.nodes.as_slice())
+}
+
+/// The same of nodes that stand in slices.
+pub fn trim_among(alloc: Global, past: &[Node], chain: &[Node]) -> Result<List<u64>, NoMemory>
+    requires { IsInOrder past.now chain.now }
+    ensures { IfOk result (AreUnreached past.now chain.now) }
+{
     let none = BTreeSet::new(alloc);
-    let reached = reached(alloc, past.nodes.as_slice(), chain.nodes.as_slice(), &none)?;
-    left_out(alloc, past.nodes.as_slice(), &reached)
+    let reached = reached(alloc, past, chain, &none)?;
+    left_out(alloc, past, &reached)
 }
 
 /// Puts at the end the numbers of the pure leaves that aren't known.
