@@ -28,4 +28,7 @@ pub mod Spans
 pub mod Spanned
 pub mod CondForms
 pub mod PickForms
+pub mod Entered
+pub mod EnterForms
 pub mod LoopForms
+pub mod NodeForms

@@ -1,5 +1,5 @@
 -- What stands in a draft once the nodes of a composite were made, and those nodes by the parts that code has.
-use Rattle.std.specs.Prelude.{ℕ, suc, ◌-◌, List, ◌∷◌, Bool, Option, Some}
+use Rattle.std.specs.Prelude.{◌≡◌, ℕ, suc, ◌-◌, List, [], ◌∷◌, ◌++◌, length, replicate, Bool, Option, Some}
 use Rattle.std.specs.List.{slice_get}
 use Rattle.pyd_value.specs.declared.value.Value.{Value}
 use Rattle.pyd_tree.specs.declared.expression.Expr.{Expr}
@@ -7,10 +7,13 @@ use Rattle.pyd_tree.specs.declared.statement.Arm.{Arm}
 use Rattle.pyd_tree.specs.declared.statement.Stmt.{Stmt}
 use Rattle.pyd_tree.specs.declared.statement.Targets.{Targets}
 use Rattle.pyd_tree.specs.declared.statement.What.{out-What}
+use Rattle.pyd_names.specs.Binding.{locals}
 use Rattle.pyd_meaning.specs.Loops.{items_over}
 use Rattle.pyd_meaning.specs.Module.{setting_at}
 use Rattle.pyd_meaning.specs.Statement.{calls_range}
 use Rattle.pyd_ir.specs.declared.arg.Arg.{Arg}
+use Rattle.pyd_ir.specs.declared.arg.Arg.TheVariants.{Unbound}
+use Rattle.pyd_ir.specs.declared.node.Node.{Node}
 use Rattle.pyd_ir.specs.declared.work.Frame.{Frame}
 use Rattle.pyd_ir.specs.declared.work.Frame.TheVariants.{Again}
 use Rattle.pyd_scope.specs.Numbering.{Point}
@@ -22,11 +25,11 @@ use Rattle.pyd_translate.specs.declared.setting.Setting.{Setting}
 use Rattle.pyd_translate.specs.Compounds.{compound_of, compound_at, line_at}
 use Rattle.pyd_translate.specs.Drafts.{Makes}
 use Rattle.pyd_translate.specs.Flows.{file_in}
-use Rattle.pyd_translate.specs.Making.{Making, Piece}
+use Rattle.pyd_translate.specs.Making.{Making, Piece, pure, ◌>>>◌}
 use Rattle.pyd_translate.specs.Starts.{done_or_stopped}
 use Rattle.pyd_translate.specs.Statements.{Done, done, Onward}
 use Rattle.pyd_refine.specs.declared.turn.Round.{Round}
-use Rattle.pyd_refine.specs.Composites.{arms_of, started, arm_tested, arm_refined, while_refined, item_turn, items_refined, loop_refined}
+use Rattle.pyd_refine.specs.Composites.{arms_of, only_value, started, arm_tested, arm_refined, while_refined, item_turn, items_refined, loop_refined}
 
 -- a piece that ends behind a Stop too: there the slots are as they were, and the value is left out
 abbrev pub ended : List Arg → Piece Done → Piece Done
@@ -90,3 +93,17 @@ item_in at r line targets v a =
 -- the suite of a loop, and then its next turn before the rest
 abbrev pub turn_in : Setting → Round → Arg → Onward
 turn_in at r a = started_in at (start.LoopBody r.stmt) (Again r.stmt (suc r.turns) a ∷ r.rest.now)
+
+-- the body of a function one deeper, with these arguments of its slots, and its value alone
+abbrev pub entered : Setting → ℕ → List Arg → Making Done
+entered at func env =
+    started (file_in at) func (suc at.depth) start.Body [] env >>> (λ d. pure (only_value d.value))
+
+-- the slots of a function that is entered: the arguments, and behind them no slot is bound
+abbrev pub taken : Setting → ℕ → List Arg → List Arg
+taken at func args = args ++ replicate (length (locals (file_in at) func) - length args) Unbound
+
+-- a routine that was called at a depth is that of a node
+pub record IsSettingOf (node : Node) (at : Setting) : Type 0 where
+  pub routine : at.routine ≡ node.routine
+  pub depth : at.depth ≡ node.depth

@@ -28,6 +28,15 @@ pub(crate) struct Round<'a> {
     pub rest: &'a [Frame],
 }
 
+impl Round<'_> {
+    /// How many turns the loop has left.
+    fn left(&self) -> u64
+        ensures { result ≡ spec.left_of self.now }
+    {
+        self.limits.turns.saturating_sub(self.turns)
+    }
+}
+
 /// A loop with its control and that control's value; what is no loop is over.
 pub(crate) fn refine_loop(
     at: &Setting<'_>,
@@ -111,7 +120,7 @@ fn while_turn(
         (spec.while_in at.now round.now line true env.old.items)
         env.old.items draft.new env.new.items u) }
 {
-    if round.turns >= round.limits.turns {
+    if round.left() == 0 {
         return stop(at, line, Fault::Limit(Limit::Turn, line), draft);
     }
     let over = Arg::Known(Value::None);
@@ -185,7 +194,7 @@ fn item_turn(
         (spec.item_in at.now round.now line targets.now item control.now env.old.items)
         env.old.items draft.new env.new.items u) }
 {
-    if round.turns >= round.limits.turns {
+    if round.left() == 0 {
         drop(item);
         return stop(at, line, Fault::Limit(Limit::Turn, line), draft);
     }

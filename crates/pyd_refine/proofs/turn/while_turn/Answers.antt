@@ -7,5 +7,5 @@ use Rattle.pyd_refine.proofs.turn.while_turn.Goals as goal
 
 pub returns : goal.returns
 returns c =
-    let lt : c.args.round.now.turns < c.args.round.now.limits.turns = omega (arith, c.if-round.false) in
+    let lt : c.args.round.now.turns < c.args.round.now.limits.turns = omega (arith, c.left.ensures, c.if-left-eq0.false) in
     made_as _ _ _ _ _ _ _ (while_turn c.args.at.now c.args.round.now c.args.line c.args.env.now.items true (Known value.None) refl lt refl) c.go_on-made.ensures
