@@ -37,6 +37,7 @@ pub mod InOrder
 pub mod Unchanged
 pub mod Named
 pub mod Owning
+pub mod Seated
 pub mod Counting
 pub mod Suites
 pub mod Fitting
@@ -50,5 +51,12 @@ pub mod NextLost
 pub mod Releasing
 pub mod Choosing
 pub mod Distinct
+pub mod CalleeNodes
+pub mod CalleeExpressions
+pub mod CalleeStatements
+pub mod CalleeRests
+pub mod CalleePieces
+pub mod Calling
+pub mod SilentJobs
 pub mod Small
 pub mod ShortRuns

@@ -38,7 +38,7 @@ pair_other n k b a unmet same also =
     absurd (cc (unmet, met))
 
 -- a claim behind a Finish was one before it
-finish_was : (p : Plan) (s : State) (k machine n : ℕ) (o : Option Held) (c : Held)
+pub finish_was : (p : Plan) (s : State) (k machine n : ℕ) (o : Option Held) (c : Held)
     → (finished_by p s k machine o).desk.claim n ≡ Some c → s.desk.claim n ≡ Some c
 finish_was p s k machine n None c e = e
 finish_was p s k machine n (Some q) c e = by_kind (is_run q.job.task) e

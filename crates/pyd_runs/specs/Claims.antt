@@ -1,11 +1,11 @@
 -- Which claims a seat holds, by the seat's own events alone.
-use Rattle.std.specs.Prelude.{◌≡◌, ◌==◌, ℕ, List, [], ◌∷◌, ◌++◌, Bool, true, false, ◌&&◌, if◌then◌else◌, Some, ◌⊎◌}
+use Rattle.std.specs.Prelude.{◌≡◌, ◌==◌, ◌<◌, ℕ, List, [], ◌∷◌, ◌++◌, Bool, true, false, ◌&&◌, if◌then◌else◌, Some, ◌⊎◌}
 use Rattle.std.specs.List.{All, filter}
 use Rattle.pyd_board.specs.declared.event.Act.{Act}
 use Rattle.pyd_board.specs.declared.event.Act.TheVariants.{Place, Claim, Finish, Drop, Refine, Settle, Lose, Trim}
 use Rattle.pyd_board.specs.declared.event.Event.{Event}
 use Rattle.pyd_ir.specs.declared.job.Job.{Job}
-use Rattle.pyd_runs.specs.Plans.{Plan}
+use Rattle.pyd_runs.specs.Plans.{Plan, IsSeatOf}
 use Rattle.pyd_runs.specs.Desks.{Held}
 use Rattle.pyd_runs.specs.Records.{ready}
 use Rattle.pyd_runs.specs.Effects.{State, happens}
@@ -52,6 +52,24 @@ LetGoLaw = (p : Plan) (s : State) (e : Event) (k : ℕ) (c : Held) → IsSound p
 abbrev pub TakeLaw : Type 0
 TakeLaw = (p : Plan) (s : State) (e : Event) (k : ℕ) (c : Held) → Enabled p s e
     → IsHeld (happens p s e) k c → IsHeld s k c ⊎ IsTaken k c e
+
+-- a claim is by a seat of a machine of the plan
+pub record IsSeated (p : Plan) (c : Held) : Type 0 where
+  pub is_machine : c.machine < p.setup.machines
+  pub of_machine : IsSeatOf p c.machine c.seat
+
+-- so is every claim that is held, also one that a loss undid
+abbrev pub AreSeated : Plan → State → Type 0
+AreSeated p s = (k : ℕ) (c : Held) → IsHeld s k c → IsSeated p c
+
+-- so they are behind every legal run
+abbrev pub SeatLaw : Type 0
+SeatLaw = (p : Plan) (es : List Event) → IsLegal p es → AreSeated p (replay p es)
+
+-- and each event that may come keeps them so
+abbrev pub KeptSeatLaw : Type 0
+KeptSeatLaw = (p : Plan) (s : State) (e : Event) → Enabled p s e → AreSeated p s
+    → AreSeated p (happens p s e)
 
 -- the events of a seat
 abbrev pub own_events : ℕ → List Event → List Event

@@ -14,6 +14,7 @@ pub mod Promise
 pub mod Following
 pub mod Facts
 pub mod Claims
+pub mod Callees
 pub mod Bounds
 pub mod HeadOrder
 pub mod Deciding

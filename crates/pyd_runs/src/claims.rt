@@ -1,5 +1,5 @@
 //! Which claims a seat holds: contracts of functions with empty bodies.
-ghost use Rattle.pyd_runs.specs.Claims.{HoldLaw, LetGoLaw, OwnLaw, SinceLaw, TakeLaw};
+ghost use Rattle.pyd_runs.specs.Claims.{HoldLaw, KeptSeatLaw, LetGoLaw, OwnLaw, SeatLaw, SinceLaw, TakeLaw};
 
 /// A claim is held until its own seat finishes or drops that attempt of the node.
 pub fn hold_law()
@@ -14,6 +14,16 @@ pub fn let_go_law()
 /// What is held behind an event was held before it, or the event claims it.
 pub fn take_law()
     ensures { TakeLaw }
+{}
+
+/// Behind a legal run a claim that is held, also one that a loss undid, is by a seat of its machine.
+pub fn seat_law()
+    ensures { SeatLaw }
+{}
+
+/// Every event that may come keeps that so.
+pub fn kept_seat_law()
+    ensures { KeptSeatLaw }
 {}
 
 /// Which claims a seat holds depends on its own events alone.

@@ -2,6 +2,7 @@
 #![tactic(auto)]
 
 mod bounds;
+mod callees;
 mod choices;
 mod claims;
 mod deciding;
@@ -17,8 +18,9 @@ mod rows;
 pub use bounds::{
     event_count_law, head_steps_law, loss_count_law, made_count_law, node_count_law, run_bound_law,
 };
+pub use callees::{callee_law, kept_callee_law, leave_law, silent_law};
 pub use choices::{choices_law, distinct_law};
-pub use claims::{hold_law, let_go_law, own_law, since_law, take_law};
+pub use claims::{hold_law, kept_seat_law, let_go_law, own_law, seat_law, since_law, take_law};
 pub use deciding::{place_test_law, refine_test_law, settle_test_law, trim_test_law};
 pub use facts::{
     claimed_law, desk_law, finished_law, in_order_law, number_law, output_law, ticket_law,
