@@ -4,3 +4,10 @@ pub mod Reading
 pub mod Lines
 pub mod Log
 pub mod Losing
+pub mod Dropping
+pub mod Tickets
+pub mod Passing
+pub mod Growing
+pub mod Trimming
+pub mod Cores
+pub mod Starting

@@ -1,10 +1,16 @@
 //! What a machine that is lost takes with it.
-ghost use Rattle.std.specs.Prelude.{◌≡◌, ◌<◌, length, true};
+ghost use Rattle.std.specs.Prelude.{◌≡◌, ◌<◌, ◌≤◌, All, drop, length, true};
 ghost use Rattle.pyd_runs.specs.Desks.{put_at};
-ghost use Rattle.pyd_core.specs.Desks.{desk_of, is_lost};
+ghost use Rattle.pyd_runs.specs.Effects as runs;
+ghost use Rattle.pyd_runs.specs.Effects.{State};
+ghost use Rattle.pyd_runs.specs.Plans.{Plan};
+ghost use Rattle.pyd_runs.specs.Sound.{IsSound};
+ghost use Rattle.pyd_core.specs.Desks.{desk_of, is_lost, with_books};
+ghost use Rattle.pyd_core.specs.Lines.{IsGraphOf};
 ghost use Rattle.pyd_core.specs.Losing.{cleared};
 
 use crate::desk::Desk;
+use crate::line::Line;
 use crate::stores::{clear_store, mark_lost};
 use pyd_store::a_store_is_a_map;
 
@@ -22,5 +28,21 @@ impl Desk {
         a_store_is_a_map();
         clear_store(&mut self.stores, machine);
         mark_lost(&mut self.alive, machine);
+    }
+
+    /// A machine is lost: its store is emptied, its claims are undone, and the tickets of nodes that
+    /// are no longer ready die.
+    pub(crate) fn lose(&mut self, line: &Line, machine: u32)
+        requires line { line.now.settled ≤ length line.now.nodes.items }
+        requires numbered { All (λ n. n.id < length self.old.marks.items) line.now.nodes.items }
+        requires store { machine < length self.old.stores.items }
+        requires alive { machine < length self.old.alive.items }
+        ensures { (p : Plan) (s : State) → IsSound p (with_books s self.old)
+            → IsGraphOf line.now self.old (with_books s self.old).graph
+            → with_books (record s { losses = drop 1 s.losses }) self.new
+            ≡ runs.lost_with (with_books s self.old) machine }
+    {
+        self.clear(machine);
+        self.drop_tickets(line);
     }
 }
