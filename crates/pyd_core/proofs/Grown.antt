@@ -1,16 +1,14 @@
 -- Line and desk behind a Refine.
-use Rattle.std.proofs.Common.{◌≡◌, ◌≢◌, ◌<◌, ◌≤◌, ◌+◌, ℕ, zero, suc, List, [], ◌∷◌, ◌++◌, append_assoc, map, drop, take, length, Bool, true, false, not, ◌&&◌, ◌||◌, cond, Option, Some, None, is_some, option_map, ◌⊎◌, inl, inr, refl, ap, sym, subst, ◌∙◌, arith}
-use Rattle.std.specs.List.{All, Contains, slice_get}
-use Rattle.std.proofs.lemmas.List.{get_or_past, take-append-drop}
+use Rattle.std.proofs.Common.{◌≡◌, ◌≢◌, ◌<◌, ◌≤◌, ℕ, List, [], ◌∷◌, ◌++◌, map, length, Bool, true, false, not, ◌&&◌, ◌||◌, cond, Option, Some, None, is_some, inl, inr, refl, ap, sym, subst, ◌∙◌, arith}
+use Rattle.std.specs.List.{All, Contains}
+use Rattle.std.proofs.lemmas.List.{get_or_past}
 use Rattle.std.proofs.lemmas.List.Elements.{All-contains_itself, All-weaker, Contains-append_left, Contains-append_right}
-use Rattle.pyd_ir.specs.declared.arg.Arg.{Arg}
 use Rattle.pyd_ir.specs.declared.node.Node.{Node}
 use Rattle.pyd_translate.specs.declared.piece.Piece.{Piece}
-use Rattle.pyd_translate.specs.Naming.{Numbers}
 use Rattle.pyd_refine.specs.Laws.{IsNew, PieceOrder}
-use Rattle.pyd_refine.specs.Ordering.{IsOrdered, LieBelow, and_nodes}
+use Rattle.pyd_refine.specs.Ordering.{IsOrdered, and_nodes}
 use Rattle.pyd_refine.specs.Readiness.{control_value}
-use Rattle.pyd_refine.specs.Redirecting.{piece_images, redirect_node, replaced_by}
+use Rattle.pyd_refine.specs.Redirecting.{piece_images, redirect_node}
 use Rattle.pyd_refine.proofs.Ordering.{nodes-below, ordered-left, ordered-right}
 use Rattle.pyd_runs.specs.Plans.{Plan, limits_of}
 use Rattle.pyd_runs.specs.Graphs.{Graph, nodes}
@@ -29,8 +27,7 @@ use Rattle.pyd_core.specs.declared.desk.Desk.{Desk}
 use Rattle.pyd_core.specs.declared.desk.Mark.{Mark}
 use Rattle.pyd_core.specs.declared.desk.PortKind.{PortKind}
 use Rattle.pyd_core.specs.declared.desk.PortKind.TheVariants.{One}
-use Rattle.pyd_core.specs.declared.line.Line.{Line}
-use Rattle.pyd_core.specs.Desks.{blank, desk_of, is_lost, mark_at}
+use Rattle.pyd_core.specs.Desks.{blank, desk_of, mark_at}
 use Rattle.pyd_core.specs.Lines.{TellsPorts, kind_of}
 use Rattle.pyd_core.specs.Growing.{gone, marks_with, told}
 use Rattle.pyd_core.proofs.Written.{desk_by}

@@ -22,8 +22,8 @@ use Rattle.pyd_runs.proofs.Standing.{AreApart, fresh_none, graph_node, nodes_apa
 use Rattle.pyd_core.specs.declared.desk.Desk.{Desk}
 use Rattle.pyd_core.specs.declared.desk.PortKind.TheVariants.{One}
 use Rattle.pyd_core.specs.declared.line.Line.{Line}
-use Rattle.pyd_core.specs.Desks.{driver_of, mark_at, silent}
-use Rattle.pyd_core.specs.Lines.{IsGraphOf, TellsPorts, chain_of, kind_of, past_of}
+use Rattle.pyd_core.specs.Desks.{mark_at, silent}
+use Rattle.pyd_core.specs.Lines.{IsGraphOf, chain_of, kind_of, past_of}
 use Rattle.pyd_core.specs.Passing.{kept_of}
 use Rattle.pyd_core.specs.Works.{port_kind}
 use Rattle.pyd_core.proofs.Numbers.{put_or}

@@ -10,13 +10,12 @@ use Rattle.pyd_runs.specs.Sound.{IsFresh}
 use Rattle.pyd_runs.proofs.Putting.{if_cases, test_same, other_test}
 use Rattle.pyd_runs.proofs.Standing.{AreApart}
 use Rattle.pyd_core.specs.declared.desk.Desk.{Desk}
-use Rattle.pyd_core.specs.declared.desk.Mark.{Mark}
 use Rattle.pyd_core.specs.declared.desk.Placed.{Placed}
 use Rattle.pyd_core.specs.declared.line.Line.{Line}
 use Rattle.pyd_core.specs.Desks.{desk_of, mark_at, placed_of, stores_of}
 use Rattle.pyd_core.specs.Lines.{IsGraphOf, chain_of}
 use Rattle.pyd_core.specs.Reading.{given_of}
-use Rattle.pyd_core.specs.Tickets.{IsRidOf, has_waiting, is_ready_in, is_waiting}
+use Rattle.pyd_core.specs.Tickets.{IsRidOf, has_waiting, is_ready_in}
 use Rattle.pyd_core.proofs.Standing.{nodes_of, ready_is}
 use Rattle.pyd_core.proofs.Written.{desk_by}
 

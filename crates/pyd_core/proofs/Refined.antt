@@ -1,5 +1,5 @@
 -- Line and desk behind a Refine are those of its state.
-use Rattle.std.proofs.Common.{◌≡◌, ◌+◌, ℕ, List, ◌∷◌, ◌++◌, drop, take, length, Some, refl, ap, sym, subst, ◌∙◌, arith}
+use Rattle.std.proofs.Common.{◌≡◌, ◌+◌, ℕ, List, ◌∷◌, ◌++◌, drop, take, Some, refl, ap, sym, subst, ◌∙◌, arith}
 use Rattle.std.specs.List.{slice_get}
 use Rattle.std.proofs.lemmas.List.{take-append-drop}
 use Rattle.pyd_board.specs.declared.event.Act.TheVariants.{Refine}
@@ -11,17 +11,15 @@ use Rattle.pyd_refine.specs.Redirecting.{replaced_by}
 use Rattle.pyd_runs.specs.Plans.{Plan}
 use Rattle.pyd_runs.specs.Graphs.{Graph}
 use Rattle.pyd_runs.specs.Records.{recorded}
-use Rattle.pyd_runs.specs.Growth.{grown, piece_for}
+use Rattle.pyd_runs.specs.Growth.{piece_for}
 use Rattle.pyd_runs.specs.Effects.{State, acted}
 use Rattle.pyd_runs.specs.Sound.{IsSound, is_over}
 use Rattle.pyd_runs.proofs.Growing.{growing}
 use Rattle.pyd_runs.proofs.Refined.{grown_is}
 use Rattle.pyd_core.specs.declared.desk.Desk.{Desk}
-use Rattle.pyd_core.specs.declared.desk.Mark.{Mark}
-use Rattle.pyd_core.specs.declared.desk.Undone.{Undone}
 use Rattle.pyd_core.specs.declared.line.Line.{Line}
-use Rattle.pyd_core.specs.Desks.{desk_of, driver_of, is_lost, mark_at}
-use Rattle.pyd_core.specs.Lines.{IsGraphOf, TellsPorts, chain_of, past_of}
+use Rattle.pyd_core.specs.Desks.{desk_of, is_lost, mark_at}
+use Rattle.pyd_core.specs.Lines.{TellsPorts, chain_of, past_of}
 use Rattle.pyd_core.specs.Growing.{HasNew, IsRefined, IsSameLine, IsStateOf, marks_with}
 use Rattle.pyd_core.proofs.Standing.{nodes_of}
 use Rattle.pyd_core.proofs.Written.{desk_by}

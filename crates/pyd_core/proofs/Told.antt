@@ -10,8 +10,7 @@ use Rattle.pyd_runs.proofs.Putting.{at_cases, put_same, put_else, same_test, oth
 use Rattle.pyd_core.specs.declared.desk.Desk.{Desk}
 use Rattle.pyd_core.specs.declared.desk.Mark.{Mark}
 use Rattle.pyd_core.specs.declared.desk.PortKind.{PortKind}
-use Rattle.pyd_core.specs.declared.desk.PortKind.TheVariants.{One}
-use Rattle.pyd_core.specs.Desks.{driver_of, mark_at}
+use Rattle.pyd_core.specs.Desks.{mark_at}
 use Rattle.pyd_core.specs.Growing.{HasNew, IsSameDesk, gone, marks_with, told}
 use Rattle.pyd_core.specs.Works.{port_kind}
 use Rattle.pyd_core.proofs.Written.{put_mark}

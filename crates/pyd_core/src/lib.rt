@@ -1,6 +1,7 @@
 //! The cluster: the graph of a run, which grows and settles, and the machines that do its jobs.
 #![tactic(auto)]
 
+mod adding;
 mod copying;
 mod desk;
 mod dropping;

@@ -1,8 +1,8 @@
 //! The nodes that stand from a composite on once a piece has taken its place.
-ghost use Rattle.std.specs.Prelude.{◌≡◌, ◌∷◌, [], ◌++◌, IfOk, OnOk, map};
+ghost use Rattle.std.specs.Prelude.{◌≡◌, ◌++◌, IfOk, OnOk, map};
 ghost use Rattle.pyd_refine.specs.Redirecting.{piece_images, redirect_node, replaced_by};
 
-use crate::copying::copy_node;
+use crate::adding::{add, add_copies};
 use crate::redirecting::Images;
 use pyd_ir::{Arg, Node};
 use pyd_translate::{Piece, slots_of};
@@ -40,16 +40,6 @@ fn ports_of(alloc: Global, piece: &Piece) -> Result<Vec<Arg>, NoMemory>
     Ok(ports)
 }
 
-/// Puts copies of nodes at the end.
-fn add_copies(alloc: Global, nodes: &mut Vec<Node>, more: &[Node]) -> Result<(), NoMemory>
-    ensures { OnOk result (nodes.new.items ≡ nodes.old.items ++ more.now) }
-{
-    for node in more {
-        add(nodes, copy_node(alloc, node)?)?;
-    }
-    Ok(())
-}
-
 /// Puts later nodes at the end.
 fn add_redirected(images: &Images<'_>, nodes: &mut Vec<Node>, more: &[Node]) -> Result<(), NoMemory>
     ensures { OnOk result (nodes.new.items ≡ nodes.old.items
@@ -59,14 +49,4 @@ fn add_redirected(images: &Images<'_>, nodes: &mut Vec<Node>, more: &[Node]) -> 
         add(nodes, images.node(node)?)?;
     }
     Ok(())
-}
-
-/// Puts an item at the end, and drops it where there is no memory.
-fn add<T: Drop>(items: &mut Vec<T>, item: T) -> Result<(), NoMemory>
-    ensures { OnOk result (items.new.items ≡ items.old.items ++ item ∷ []) }
-{
-    match items.push(item) {
-        Ok(()) => Ok(()),
-        Err(_) => Err(NoMemory),
-    }
 }

@@ -9,7 +9,7 @@ ghost use Rattle.pyd_core.specs.Log.{IsCounted};
 ghost use Rattle.pyd_core.specs.Starting as spec;
 ghost use Rattle.pyd_core.specs.Starting.{HasFirst};
 
-use crate::copying::copy_node;
+use crate::adding::{add, add_copies};
 use crate::desk::{Desk, Mark};
 use crate::keeper::{Core, Parts};
 use crate::line::Line;
@@ -77,7 +77,8 @@ impl Line {
         ensures settled { IfOk result (λ line. line.settled ≡ 0) }
     {
         let piece = unfold_script(alloc, program)?;
-        let nodes = copies(alloc, piece.nodes.as_slice())?;
+        let mut nodes = Vec::new(alloc);
+        add_copies(alloc, &mut nodes, piece.nodes.as_slice())?;
         Ok(Line { nodes, settled: 0 })
     }
 }
@@ -134,17 +135,6 @@ fn end_of(chain: &[Node]) -> Option<End>
     }
 }
 
-/// Copies of nodes.
-fn copies(alloc: Global, nodes: &[Node]) -> Result<Vec<Node>, NoMemory>
-    ensures { IfOk result (λ copies. copies.items ≡ nodes.now) }
-{
-    let mut copies = Vec::new(alloc);
-    for node in nodes {
-        add(&mut copies, copy_node(alloc, node)?)?;
-    }
-    Ok(copies)
-}
-
 /// The marks of nodes before any event.
 fn first_marks(alloc: Global, nodes: &[Node]) -> Result<Vec<Mark>, NoMemory>
     ensures { IfOk result (λ marks. marks.items ≡ map spec.first_mark nodes.now) }
@@ -189,14 +179,4 @@ fn empty_stores(alloc: Global, count: usize) -> Result<Vec<Store>, NoMemory>
         add(&mut stores, Store::new(alloc))?;
     }
     Ok(stores)
-}
-
-/// Puts an item at the end, and drops it where there is no memory.
-fn add<T: Drop>(items: &mut Vec<T>, item: T) -> Result<(), NoMemory>
-    ensures { OnOk result (items.new.items ≡ items.old.items ++ item ∷ []) }
-{
-    match items.push(item) {
-        Ok(()) => Ok(()),
-        Err(_) => Err(NoMemory),
-    }
 }

@@ -1,8 +1,7 @@
-use Rattle.std.proofs.Common.{◌≡◌, ◌<◌, ◌∙◌, List, All, Some, length, set, drop, ap, sym, subst}
+use Rattle.std.proofs.Common.{◌≡◌, ◌<◌, ◌∙◌, All, Some, length, set, drop, ap, sym, subst}
 use Rattle.std.proofs.lemmas.List.Elements.{All-head}
 use Rattle.pyd_ir.specs.declared.node.Node.{Node}
 use Rattle.pyd_ir.specs.Arguments.{is_pure}
-use Rattle.pyd_runs.specs.Effects.{State}
 use Rattle.pyd_core.specs.Desks.{with_books}
 use Rattle.pyd_core.specs.Lines.{chain_of}
 use Rattle.pyd_core.proofs.Heads.{head_is, kept_effect, passed_effect}

@@ -1,4 +1,4 @@
-use Rattle.std.proofs.Common.{ap, subst, ◌∙◌, ◌++◌, drop, take}
+use Rattle.std.proofs.Common.{ap, subst, ◌∙◌, ◌++◌, take}
 use Rattle.pyd_refine.specs.Redirecting.{replaced_by}
 use Rattle.pyd_core.specs.Growing.{HasNew}
 use Rattle.pyd_core.specs.Lines.{chain_of}

@@ -1,6 +1,6 @@
 -- The nodes so far, and then those that are left, are all.
 use Rattle.std.proofs.Common.{◌≡◌, ◌++◌, drop}
-use Rattle.pyd_core.proofs.replacing.add_copies.Given as goal
+use Rattle.pyd_core.proofs.adding.add_copies.Given as goal
 
 abbrev pub invariant-loop-node : goal.invariant-loop-node
 invariant-loop-node l =
