@@ -6,6 +6,7 @@ use Rattle.std.proofs.lemmas.Int.{ints, to_z-of_z}
 use Rattle.std.proofs.lemmas.Nat.{div-add-mod', div-mul-add, mod-mul-add, mod_below}
 use Rattle.std.proofs.Math.Nat.{div-le_self, div-eq_of_lt}
 use Rattle.std.proofs.Math.Pow.{pow_mono}
+use Rattle.pyd_value.specs.Limits.{integer_bound}
 use Rattle.pyd_ops.specs.Integer.{within}
 use Rattle.pyd_ops.specs.Arithmetic.{floor_div, floor_rem}
 use Rattle.pyd_ops.proofs.Limits.{holds}
@@ -66,7 +67,7 @@ less_by_one m (pos n) l h = absurd (positive n l)
 less_by_one (pos m) (negsuc n) l h = less_one (m / suc n) ∙ sym (quotient_neg m n h)
 less_by_one (negsuc m) (negsuc n) l h = more_less (m / suc n) ∙ sym (quotient_pos m n h)
 
-below_bound : (m k : ℕ) → m < 2 ^ 127 → m / k < 2 ^ 127
+below_bound : (m k : ℕ) → m < integer_bound → m / k < integer_bound
 below_bound m k h = omega (arith, div-le_self m k)
 
 pub quotient_fits : (m n : ℤ) → FitsSigned w128 m → int_lt n (pos 0) ≡ true → int_rem_euclid m n ≢ pos 0 → FitsSigned w128 (floor_div m n)
@@ -128,7 +129,7 @@ rest_none (negsuc a) (negsuc n) h l =
     h ∙ ap (λ k. neg_ℤ (pos k)) (sym (carry a (suc n) (omega arith) (no_room a n h (mod_below a (suc n) (omega arith)))).1)
 
 -- shifts to the right, of which no more than 127 places matter
-few : (a n : ℕ) → a < 2 ^ 127 → a / 2 ^ min n 127 ≡ a / 2 ^ n
+few : (a n : ℕ) → a < integer_bound → a / 2 ^ min n 127 ≡ a / 2 ^ n
 few a n h = by_size (choice n)
   where
     choice : (n : ℕ) → (n ≤ 127) ⊎ (127 ≤ n)
@@ -157,7 +158,7 @@ pub zero_seen : (r : ℤ) → FitsSigned w128 r → of_z w128 r ≡ 0 → r ≡ 
 zero_seen (pos n) f e = ap pos e
 zero_seen (negsuc n) f e = absurd (wide n f.sfits e)
   where
-    wide : (n : ℕ) → n < 2 ^ 127 → 2 ^ 128 - suc n ≡ 0 → ⊥
+    wide : (n : ℕ) → n < integer_bound → 2 ^ 128 - suc n ≡ 0 → ⊥
     wide n h e = omega arith
 
 -- a remainder that the calls answer
@@ -195,7 +196,7 @@ quotient_exact m n r f k g d e = exact m n (sym (rest_is r m n f.first f.second 
 pub quotient_upper : (m n : ℤ) → Numbers m n → int_lt (to_z w128 (of_z w128 n)) (pos 0) ≡ false → int_div_euclid m n ≡ floor_div m n
 quotient_upper m n f l = same_sign m n (negative_seen n f.second l)
 
-sum_fits : (r k : ℕ) → r < 2 ^ 127 → k < 2 ^ 127 → FitsSigned w128 (pos r +ℤ negsuc k)
+sum_fits : (r k : ℕ) → r < integer_bound → k < integer_bound → FitsSigned w128 (pos r +ℤ negsuc k)
 sum_fits r k f g = search (rules, arith)
 
 mixed : (m n : ℤ) → FitsSigned w128 n → int_lt n (pos 0) ≡ true → FitsSigned w128 (int_rem_euclid m n) → FitsSigned w128 (int_rem_euclid m n +ℤ n)

@@ -5,6 +5,7 @@ use Rattle.std.proofs.lemmas.Int.{to_z-of_z, to_z_pos}
 use Rattle.std.proofs.lemmas.Nat.{one_shl, pow_below}
 use Rattle.std.proofs.Math.Nat.{pow-le-pow_left, pow-suc, mul-le-mul_right}
 use Rattle.std.proofs.Math.Pow.{pow_mono}
+use Rattle.pyd_value.specs.Limits.{integer_bound}
 use Rattle.pyd_ops.specs.Integer.{within}
 use Rattle.pyd_ops.proofs.Limits.{fits_not, from_checked}
 use Rattle.pyd_ops.proofs.Division.{zero_seen}
@@ -62,12 +63,12 @@ pub shift_past : (m : ℤ) (n : ℕ) → m ≢ pos 0 → (m ≡ negsuc 0 → n �
 shift_past (pos zero) n p q h = absurd (p refl)
 shift_past (pos (suc m)) n p q h = sym (fits_not _ (λ f. past (suc m * 2 ^ n) (far m n h) f))
   where
-    far : (m n : ℕ) → 127 ≤ n → 2 ^ 127 ≤ suc m * 2 ^ n
+    far : (m n : ℕ) → 127 ≤ n → integer_bound ≤ suc m * 2 ^ n
     far m n h =
         let k : 1 * 2 ^ n ≤ suc m * 2 ^ n = mul-le-mul_right (2 ^ n) (omega arith) in
         omega (arith, k, pow_mono h)
 
-    past : (k : ℕ) → 2 ^ 127 ≤ k → FitsSigned w128 (pos k) → ⊥
+    past : (k : ℕ) → integer_bound ≤ k → FitsSigned w128 (pos k) → ⊥
     past k h f = omega (arith, f.sfits)
 shift_past (negsuc zero) n p q h = sym (fits_not _ (λ f. too_low (1 * 2 ^ n) (farther n h (q refl)) f))
   where
@@ -85,11 +86,11 @@ shift_past (negsuc (suc m)) n p q h = sym (fits_not _ (λ f. too_low (suc (suc m
 minus_one_seen : (m : ℤ) → FitsSigned w128 m → of_z w128 m ≡ 2 ^ 128 - 1 → m ≡ negsuc 0
 minus_one_seen (pos n) f e = absurd (wide n f.sfits e)
   where
-    wide : (n : ℕ) → n < 2 ^ 127 → n ≡ 2 ^ 128 - 1 → ⊥
+    wide : (n : ℕ) → n < integer_bound → n ≡ 2 ^ 128 - 1 → ⊥
     wide n h e = omega arith
 minus_one_seen (negsuc n) f e = ap negsuc (least n f.sfits e)
   where
-    least : (n : ℕ) → n < 2 ^ 127 → 2 ^ 128 - suc n ≡ 2 ^ 128 - 1 → n ≡ 0
+    least : (n : ℕ) → n < integer_bound → 2 ^ 128 - suc n ≡ 2 ^ 128 - 1 → n ≡ 0
     least n h e = omega arith
 
 unseen : (m z : ℤ) → (of_z w128 m ≡ of_z w128 z → ⊥) → m ≢ z
@@ -99,7 +100,7 @@ one_seen : (m : ℤ) → FitsSigned w128 m → of_z w128 m ≡ 1 → m ≡ pos 1
 one_seen (pos n) f e = ap pos e
 one_seen (negsuc n) f e = absurd (wide n f.sfits e)
   where
-    wide : (n : ℕ) → n < 2 ^ 127 → 2 ^ 128 - suc n ≡ 1 → ⊥
+    wide : (n : ℕ) → n < integer_bound → 2 ^ 128 - suc n ≡ 1 → ⊥
     wide n h e = omega arith
 
 pub base_kept : (m : ℤ) (n : ℕ) → FitsSigned w128 m → 128 ≤ n → (of_z w128 m ≡ 0) ⊎ (of_z w128 m ≡ 1) → Some (to_z w128 (of_z w128 m)) ≡ within (int_pow m n)

@@ -5,15 +5,16 @@ use Rattle.std.specs.Int.{w128, bit_at, bit_not}
 use Rattle.std.proofs.lemmas.Int.{to_z-of_z, to_z_pos}
 use Rattle.std.proofs.lemmas.Nat.{and_le_l, and_comm, or_comm, xor_comm, and-not, or_lt, xor_lt}
 use Rattle.std.proofs.lemmas.Nat.Bits.{bit_at_and, bit_at_or, bit_at_xor, bit_at_not, bit_at-lt, same_from_bits_below}
+use Rattle.pyd_value.specs.Limits.{integer_bound}
 use Rattle.pyd_ops.specs.Bits.{bits_and_not, bits_and, bits_or, bits_xor}
 
 -- what is set in m and not in n, by the bits of n turned round
-less_is : (m n : ℕ) → m < 2 ^ 127 → n < 2 ^ 127 → bits_and_not m n ≡ bit_and m (bit_not w128 n)
+less_is : (m n : ℕ) → m < integer_bound → n < integer_bound → bits_and_not m n ≡ bit_and m (bit_not w128 n)
 less_is m n f g =
     let a : bit_and (2 ^ 128 - 1 - n) m + bit_and n m ≡ m = and-not 128 n m (omega arith) (omega arith) in
     omega (arith, a, and_comm m (2 ^ 128 - 1 - n), and_comm m n)
 
-wide : (n : ℕ) → n < 2 ^ 127 → n < 2 ^ 128
+wide : (n : ℕ) → n < integer_bound → n < 2 ^ 128
 wide n h = omega arith
 
 turned : (n : ℕ) → of_z w128 (negsuc n) ≡ bit_not w128 n
@@ -22,20 +23,20 @@ turned n = omega arith
 turned_below : (n : ℕ) → bit_not w128 n < 2 ^ 128
 turned_below n = omega arith
 
-kept : (n : ℕ) → n < 2 ^ 127 → to_z w128 n ≡ pos n
+kept : (n : ℕ) → n < integer_bound → to_z w128 n ≡ pos n
 kept n h = to_z_pos w128 n h
 
-turned_back : (n : ℕ) → n < 2 ^ 127 → to_z w128 (bit_not w128 n) ≡ negsuc n
+turned_back : (n : ℕ) → n < integer_bound → to_z w128 (bit_not w128 n) ≡ negsuc n
 turned_back n h = ap (to_z w128) (sym (turned n)) ∙ to_z-of_z w128 (negsuc n) (record { sfits = h })
 
-less_below : (m n : ℕ) → m < 2 ^ 127 → bits_and_not m n < 2 ^ 127
+less_below : (m n : ℕ) → m < integer_bound → bits_and_not m n < integer_bound
 less_below m n h = omega arith
 
-and_below : (m n : ℕ) → m < 2 ^ 127 → bit_and m n < 2 ^ 127
+and_below : (m n : ℕ) → m < integer_bound → bit_and m n < integer_bound
 and_below m n h = omega (arith, and_le_l m n)
 
 -- the bits of both sides, at each place
-and_of_turned : (m n : ℕ) → m < 2 ^ 127 → n < 2 ^ 127 → bit_and (bit_not w128 m) (bit_not w128 n) ≡ bit_not w128 (bit_or m n)
+and_of_turned : (m n : ℕ) → m < integer_bound → n < integer_bound → bit_and (bit_not w128 m) (bit_not w128 n) ≡ bit_not w128 (bit_or m n)
 and_of_turned m n f g =
     same_from_bits_below 128 _ _ (omega (arith, and_le_l (bit_not w128 m) (bit_not w128 n), turned_below m)) (turned_below (bit_or m n))
     (λ i h. omega (
@@ -47,7 +48,7 @@ and_of_turned m n f g =
       bit_at_or m n i,
     ))
 
-or_of_turned : (m n : ℕ) → m < 2 ^ 127 → n < 2 ^ 127 → bit_or (bit_not w128 m) (bit_not w128 n) ≡ bit_not w128 (bit_and m n)
+or_of_turned : (m n : ℕ) → m < integer_bound → n < integer_bound → bit_or (bit_not w128 m) (bit_not w128 n) ≡ bit_not w128 (bit_and m n)
 or_of_turned m n f g =
     same_from_bits_below 128 _ _ (or_lt 128 (bit_not w128 m) (bit_not w128 n) (turned_below m) (turned_below n)) (turned_below (bit_and m n))
     (λ i h. omega (
@@ -59,7 +60,7 @@ or_of_turned m n f g =
       bit_at_and m n i,
     ))
 
-or_with_turned : (m n : ℕ) → m < 2 ^ 127 → n < 2 ^ 127 → bit_or m (bit_not w128 n) ≡ bit_not w128 (bits_and_not n m)
+or_with_turned : (m n : ℕ) → m < integer_bound → n < integer_bound → bit_or m (bit_not w128 n) ≡ bit_not w128 (bits_and_not n m)
 or_with_turned m n f g =
     same_from_bits_below 128 _ _ (or_lt 128 m (bit_not w128 n) (wide m f) (turned_below n)) (turned_below (bits_and_not n m))
     (λ i h. omega (
@@ -80,14 +81,14 @@ odd p q f g = omega arith
 even : (p q : ℕ) → p < 2 → q < 2 → ((1 - p) + (1 - q)) % 2 ≡ (p + q) % 2
 even p q f g = omega arith
 
-xor_with_turned : (m n : ℕ) → m < 2 ^ 127 → n < 2 ^ 127 → bit_xor m (bit_not w128 n) ≡ bit_not w128 (bit_xor m n)
+xor_with_turned : (m n : ℕ) → m < integer_bound → n < integer_bound → bit_xor m (bit_not w128 n) ≡ bit_not w128 (bit_xor m n)
 xor_with_turned m n f g =
     same_from_bits_below 128 _ _ (xor_lt 128 m (bit_not w128 n) (wide m f) (turned_below n)) (turned_below (bit_xor m n))
     (λ i h. bit_at_xor m (bit_not w128 n) i ∙ ap (λ q. (bit_at m i + q) % 2) (bit_at_not w128 n i (wide n g) h)
     ∙ odd (bit_at m i) (bit_at n i) (bit_at-lt m i) (bit_at-lt n i) ∙ ap (λ q. 1 - q) (sym (bit_at_xor m n i))
     ∙ sym (bit_at_not w128 (bit_xor m n) i (wide (bit_xor m n) (xor_lt 127 m n f g)) h))
 
-xor_of_turned : (m n : ℕ) → m < 2 ^ 127 → n < 2 ^ 127 → bit_xor (bit_not w128 m) (bit_not w128 n) ≡ bit_xor m n
+xor_of_turned : (m n : ℕ) → m < integer_bound → n < integer_bound → bit_xor (bit_not w128 m) (bit_not w128 n) ≡ bit_xor m n
 xor_of_turned m n f g =
     same_from_bits_below 128 _ _ (xor_lt 128 (bit_not w128 m) (bit_not w128 n) (turned_below m) (turned_below n)) (wide (bit_xor m n) (xor_lt 127 m n f g))
     (λ i h. bit_at_xor (bit_not w128 m) (bit_not w128 n) i

@@ -16,12 +16,14 @@ use std::alloc::Global;
 pub(crate) fn join_texts(alloc: Global, s: &Text, t: &Text, line: u32) -> Result<Outcome, NoMemory>
     ensures { Answers result (spec.text_if_fits (s.now ++ t.now) line) }
 {
-    let (s, t) = (s.as_str(), t.as_str());
-    if s.len().saturating_add(t.len()) as u64 >= LARGEST_SIZE {
+    let (first, second) = (s.as_str(), t.as_str());
+    if first.len().saturating_add(second.len()) as u64 >= LARGEST_SIZE {
         return Ok(exceed(Limit::Size, line));
     }
-    let joined = join_strs(alloc, s, t)?;
-    text_value(alloc, joined)
+    let joined = join_strs(alloc, first, second)?;
+    let count = s.count().saturating_add(t.count());
+    let text = Text::from_counted(alloc, joined, count)?;
+    Ok(Outcome::Ok(Value::Text(text)))
 }
 
 fn join_strs(alloc: Global, s: &str, t: &str) -> Result<String, NoMemory>
