@@ -1,3 +1,4 @@
 pub mod Lineage
 pub mod Marking
+pub mod Awaiting
 pub mod Ordered

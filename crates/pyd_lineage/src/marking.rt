@@ -42,7 +42,11 @@ fn mark_chain(
 }
 
 /// Of the past nodes only those that the set has by then are gone through.
-fn mark_past(set: &mut BTreeSet<u64>, past: &[Node], known: &BTreeSet<u64>) -> Result<(), NoMemory>
+pub(crate) fn mark_past(
+    set: &mut BTreeSet<u64>,
+    past: &[Node],
+    known: &BTreeSet<u64>,
+) -> Result<(), NoMemory>
     ensures { OnOk result ((behind : Sequence ℕ) → IsSetOf set.old behind
         → IsSetOf set.new (spec.past_names (has known.now) past.now behind)) }
 {

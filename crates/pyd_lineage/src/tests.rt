@@ -1,9 +1,9 @@
-//! Lists of nodes, which of them are needed, and which may be dropped.
+//! Lists of nodes, which of them are needed, which may be dropped, and which is awaited.
 
 mod ordering;
 mod reading;
 
-use crate::{needed, trim};
+use crate::{first_awaited, needed, trim};
 use ordering::in_order;
 use pyd_ir::{Chain, Past};
 use pyd_value::NoMemory;
@@ -50,6 +50,39 @@ fn what_the_chain_reaches_is_needed_or_kept(rt: HostRuntime) -> Result<(), Fail>
     for row in &ROWS {
         assert!(rt;
             answers(rt.alloc(), row)?,
+            "{}; {}; {}",
+            row[0],
+            row[1],
+            row[2]
+        );
+    }
+    Ok(())
+}
+
+/// The past, the numbers that are wanted, those that are known, and the place of the first that is awaited.
+const AWAITED: [([&str; 3], Option<usize>); 7] = [
+    (["0:op 1:op:0", "1", ""], Some(0)),
+    (["0:op 1:op:0", "1", "0"], Some(1)),
+    (["0:op 1:op:0", "1", "1"], None),
+    (["0:op 1:op 2:op:1", "2", ""], Some(1)),
+    (["0:op 1:op:0 2:op:1", "2", "1"], Some(2)),
+    (["8:op 3:op:8", "3", ""], Some(0)),
+    (["0:op", "", ""], None),
+];
+
+fn is_found(alloc: Global, row: &[&str; 3], place: Option<usize>) -> Result<bool, NoMemory> {
+    let [past, wanted, known] = *row;
+    let past = nodes(alloc, past)?;
+    let wanted = numbers(alloc, wanted)?;
+    let known = numbers(alloc, known)?;
+    Ok(first_awaited(alloc, past.as_slice(), wanted.as_slice(), known.as_slice())? == place)
+}
+
+#[test]
+fn the_first_past_node_that_is_wanted_is_awaited(rt: HostRuntime) -> Result<(), Fail> {
+    for (row, place) in &AWAITED {
+        assert!(rt;
+            is_found(rt.alloc(), row, *place)?,
             "{}; {}; {}",
             row[0],
             row[1],
