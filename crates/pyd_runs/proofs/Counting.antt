@@ -41,16 +41,16 @@ use Rattle.pyd_runs.proofs.Unchanged.{finish_alike, claimed_so, finished_now}
 use Rattle.pyd_runs.proofs.Named.{AreMade, none_made, event_made, act_below, settled_next, no_less}
 
 -- how many more events a node may have before a loss: none where it has a record, a Finish where it is claimed, a Claim before that where it has a ticket, else a Place before both
-abbrev level_by : Option Ran → Option Held → Option Placed → ℕ
+abbrev pub level_by : Option Ran → Option Held → Option Placed → ℕ
 level_by (Some ran) c t = 0
 level_by None (Some c) t = 1
 level_by None None (Some t) = 2
 level_by None None None = 3
 
-abbrev level : State → ℕ → ℕ
+abbrev pub level : State → ℕ → ℕ
 level s k = level_by (records s.graph s.desk.stores k) (s.desk.claim k) (s.desk.ticket k)
 
-level_most : (r : Option Ran) (c : Option Held) (t : Option Placed) → level_by r c t ≤ 3
+pub level_most : (r : Option Ran) (c : Option Held) (t : Option Placed) → level_by r c t ≤ 3
 level_most (Some ran) c t = omega arith
 level_most None (Some c) t = omega arith
 level_most None None (Some t) = omega arith
@@ -386,7 +386,7 @@ unfolding losing
 losses_counted p es legal = lost_so_far p (first_state p) es legal
 
 -- the total of a function of the numbers below one
-total : (ℕ → ℕ) → ℕ → ℕ
+pub total : (ℕ → ℕ) → ℕ → ℕ
 total f zero = 0
 total f (suc n) = f n + total f n
 
@@ -399,7 +399,7 @@ unfolding total
 total_suc f n = refl
 
 -- where each is 3 at most
-total_most : (f : ℕ → ℕ) (n : ℕ) → ((k : ℕ) → f k ≤ 3) → total f n ≤ 3 * n
+pub total_most : (f : ℕ → ℕ) (n : ℕ) → ((k : ℕ) → f k ≤ 3) → total f n ≤ 3 * n
 total_most f zero most = let none = total_zero f in omega (arith, none)
 total_most f (suc n) most =
     let all = total_suc f n in
@@ -462,7 +462,7 @@ works (Settle k) = false
 works (Lose m) = false
 works (Trim k) = false
 
-working : List Event → ℕ
+pub working : List Event → ℕ
 working es = count_by (λ (e : Event). works e.act) es
 
 working_none : working [] ≡ 0
@@ -556,7 +556,7 @@ run_next p s (e ∷ es) sound legal =
     one others
 
 -- a run has no more events that serve a node than all levels and the losses allow
-worked : (p : Plan) (s : State) (es : List Event) (n : ℕ) → IsSound p s → AreMade s
+pub worked : (p : Plan) (s : State) (es : List Event) (n : ℕ) → IsSound p s → AreMade s
     → IsLegalFrom p s es → AllAlong InHeadOrder p s es → (after p s es).graph.next ≤ n
     → working es ≤ total (level s) n + 3 * (losing es * n)
 unfolding IsLegalFrom after
@@ -590,7 +590,7 @@ one_kind s (Settle k) order = refl
 one_kind s (Lose m) order = refl
 one_kind s (Trim k) order = absurd order
 
-all_kinds : (p : Plan) (s : State) (es : List Event) → AllAlong InHeadOrder p s es
+pub all_kinds : (p : Plan) (s : State) (es : List Event) → AllAlong InHeadOrder p s es
     → length es ≡ taken es + (losing es + working es)
 unfolding taken losing working
 all_kinds p s [] order = omega arith
@@ -613,7 +613,7 @@ order_head s (Settle k) order = tt
 order_head s (Lose m) order = tt
 order_head s (Trim k) order = tt
 
-order_heads : (p : Plan) (s : State) (es : List Event) → AllAlong InHeadOrder p s es
+pub order_heads : (p : Plan) (s : State) (es : List Event) → AllAlong InHeadOrder p s es
     → AllAlong RefinesHead p s es
 order_heads p s [] order = tt
 order_heads p s (e ∷ es) order =

@@ -43,6 +43,7 @@ pub mod Suites
 pub mod Fitting
 pub mod Made
 pub mod Bounding
+pub mod Onward
 pub mod Promising
 pub mod Waiting
 pub mod Testing

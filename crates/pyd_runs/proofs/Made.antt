@@ -140,9 +140,9 @@ module _ (file : File) where
         (redirected_work n.routine n.work all.0, redirected_nodes ns all.1)
 
 -- a graph behind another: so many more nodes at most were made, and the rests of its chain are nested
-record IsBehind (p : Plan) (old new : Graph) (n : ℕ) : Type 0 where
-  made : new.next ≤ old.next + 3 * n
-  nested : AreNested p.file new.chain
+pub record IsBehind (p : Plan) (old new : Graph) (n : ℕ) : Type 0 where
+  pub made : new.next ≤ old.next + 3 * n
+  pub nested : AreNested p.file new.chain
 
 -- a graph with the same chain and next number
 same_graph : (p : Plan) (old new : Graph) → new.chain ≡ old.chain → new.next ≡ old.next
@@ -232,7 +232,7 @@ act_makes p s seat (Lose m) sound can nested =
 act_makes p s seat (Trim k) sound can nested =
     same_graph p s.graph (trimmed k s.graph) refl refl nested
 
-event_makes : (p : Plan) (s : State) (e : Event) → IsSound p s → CanAct p s e.by e.act
+pub event_makes : (p : Plan) (s : State) (e : Event) → IsSound p s → CanAct p s e.by e.act
     → AreNested p.file s.graph.chain
     → IsBehind p s.graph (happens p s e).graph
     (cond (advances e.act) (suc (file_items p.file)) 0)
@@ -240,7 +240,7 @@ unfolding happens
 event_makes p s e sound can nested = act_makes p s e.by e.act sound can nested
 
 -- the nodes that events make
-run_makes : (p : Plan) (s : State) (es : List Event) → IsSound p s → IsLegalFrom p s es
+pub run_makes : (p : Plan) (s : State) (es : List Event) → IsSound p s → IsLegalFrom p s es
     → AreNested p.file s.graph.chain
     → (after p s es).graph.next ≤ s.graph.next + 3 * (taken es * suc (file_items p.file))
 unfolding IsLegalFrom after
@@ -257,7 +257,7 @@ run_makes p s (e ∷ es) sound legal nested =
 pub first_few : (p : Plan) → length (module_piece p).nodes ≤ 3 * file_items p.file
 first_few p = routine_few p.file 0 0 (unbound_slots (module_variables p.file)) 0
 
-first_nested : (p : Plan) → AreNested p.file (module_piece p).nodes
+pub first_nested : (p : Plan) → AreNested p.file (module_piece p).nodes
 first_nested p = routine_nests p.file 0 0 (unbound_slots (module_variables p.file)) 0
 
 pub few_made : (p : Plan) (es : List Event) → IsRunnable p → IsLegal p es

@@ -44,7 +44,7 @@ use Rattle.pyd_runs.proofs.Running.{event_keeps}
 use Rattle.pyd_runs.proofs.Starting.{starts}
 
 -- the steps that walking a graph's chain counts
-abbrev steps_of : Plan → Graph → ℕ
+abbrev pub steps_of : Plan → Graph → ℕ
 steps_of p g = (walk p.file (limits_of p) g.chain g.given).steps
 
 -- a walk whose first node gives a value counts one step for it
@@ -77,12 +77,12 @@ walk_stops file limits given node rest e f meant gave =
     ap (λ (x : Evaluation Given). x.steps) all ∙ ap (λ (x : Evaluation Ports). x.steps) one
 
 -- so many steps are left at most
-record IsBounded (p : Plan) (g : Graph) (c : ℕ) : Type 0 where
-  goes : g.end ≡ None → c ≤ steps_of p g
-  ended : g.end ≢ None → c ≡ 0
+pub record IsBounded (p : Plan) (g : Graph) (c : ℕ) : Type 0 where
+  pub goes : g.end ≡ None → c ≤ steps_of p g
+  pub ended : g.end ≢ None → c ≡ 0
 
 -- where a run has ended or goes on, so many are left
-bounded_at : (p : Plan) (g : Graph) (c : ℕ) → IsBounded p g c → c ≤ steps_of p g
+pub bounded_at : (p : Plan) (g : Graph) (c : ℕ) → IsBounded p g c → c ≤ steps_of p g
 bounded_at p g c b = by_end g.end refl
   where
     by_end : (o : Option End) → g.end ≡ o → c ≤ steps_of p g
@@ -217,7 +217,7 @@ pub taken_cons : (e : Event) (es : List Event)
 unfolding taken
 taken_cons e es = sum_by-cons (λ (x : Event). cond (advances x.act) 1 0) e es
 
-events_bound : (p : Plan) (s : State) (es : List Event) → IsSound p s
+pub events_bound : (p : Plan) (s : State) (es : List Event) → IsSound p s
     → AllAlong RefinesHead p s es → IsLegalFrom p s es → IsBounded p s.graph (taken es)
 unfolding IsLegalFrom happens taken
 events_bound p s [] sound along legal =

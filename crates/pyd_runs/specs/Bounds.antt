@@ -1,14 +1,15 @@
--- How many events a run has at most where the head alone is refined.
+-- How many events a run has at most where the head alone is refined, and how many may come yet.
 use Rattle.std.specs.Prelude.{◌==◌, ◌≤◌, ◌+◌, ◌*◌, ℕ, suc, List, [], ◌∷◌, length, Bool, true, false, IsTrue}
 use Rattle.std.specs.List.{count_by}
 use Rattle.pyd_board.specs.declared.event.Act.{Act}
 use Rattle.pyd_board.specs.declared.event.Act.TheVariants.{Place, Claim, Finish, Drop, Refine, Settle, Lose, Trim}
 use Rattle.pyd_board.specs.declared.event.Event.{Event}
 use Rattle.pyd_translate.specs.Counts.{file_items}
-use Rattle.pyd_runs.specs.Plans.{Plan, meaning}
+use Rattle.pyd_translate.specs.Walk.{walk}
+use Rattle.pyd_runs.specs.Plans.{Plan, limits_of, meaning}
 use Rattle.pyd_runs.specs.Records.{heads}
 use Rattle.pyd_runs.specs.Effects.{State, first_state, happens}
-use Rattle.pyd_runs.specs.Replay.{IsLegal, replay}
+use Rattle.pyd_runs.specs.Replay.{IsLegal, IsLegalFrom, replay}
 use Rattle.pyd_runs.specs.Laws.{IsRunnable, advances}
 
 -- this holds of each state and the act in it, from a state on
@@ -104,3 +105,22 @@ event_bound p =
 abbrev pub RunBound : Type 0
 RunBound = (p : Plan) (es : List Event) → IsRunnable p → IsLegal p es
     → AllAlong InHeadOrder p (first_state p) es → length es ≤ event_bound p
+
+-- the steps of the chain that are left, as walking it counts them
+abbrev pub steps_left : Plan → State → ℕ
+steps_left p s = (walk p.file (limits_of p) s.graph.chain s.graph.given).steps
+
+-- how many nodes there are at most once the chain has taken them
+abbrev pub most_nodes : Plan → State → ℕ
+most_nodes p s = s.graph.next + 3 * (steps_left p s * suc (file_items p.file))
+
+-- one for each step that is left and for each loss to come, and 3 for each node, and for each node and loss
+abbrev pub onward_bound : Plan → State → ℕ
+onward_bound p s =
+    steps_left p s + length s.losses + 3 * (suc (length s.losses) * most_nodes p s)
+
+-- no more events come in head order, whatever came before
+abbrev pub OnwardBound : Type 0
+OnwardBound = (p : Plan) (es more : List Event) → IsRunnable p → IsLegal p es
+    → IsLegalFrom p (replay p es) more → AllAlong InHeadOrder p (replay p es) more
+    → length more ≤ onward_bound p (replay p es)

@@ -1,5 +1,5 @@
 //! How many events a run has at most where the head alone is refined: contracts of functions with empty bodies.
-ghost use Rattle.pyd_runs.specs.Bounds.{EventCountLaw, HeadStepsLaw, LossCountLaw, MadeCountLaw, NodeCountLaw, RunBound};
+ghost use Rattle.pyd_runs.specs.Bounds.{EventCountLaw, HeadStepsLaw, LossCountLaw, MadeCountLaw, NodeCountLaw, OnwardBound, RunBound};
 
 /// Where the head alone is refined, a run settles and refines at most 4 nodes for each step of the script.
 pub fn head_steps_law()
@@ -32,4 +32,10 @@ pub fn made_count_law()
 /// expressions and suffixes of the file, T the steps of the script, and L the losses of the plan.
 pub fn run_bound_law()
     ensures { RunBound }
+{}
+
+/// From any legal run on, at most so many events come in head order: one for each step that is left of the
+/// chain and for each loss to come, and 3 for each node, and for each node and loss.
+pub fn onward_bound_law()
+    ensures { OnwardBound }
 {}

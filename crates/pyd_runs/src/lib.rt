@@ -16,7 +16,8 @@ mod releases;
 mod rows;
 
 pub use bounds::{
-    event_count_law, head_steps_law, loss_count_law, made_count_law, node_count_law, run_bound_law,
+    event_count_law, head_steps_law, loss_count_law, made_count_law, node_count_law,
+    onward_bound_law, run_bound_law,
 };
 pub use callees::{callee_law, kept_callee_law, leave_law, silent_law};
 pub use choices::{choices_law, distinct_law};
