@@ -1,5 +1,5 @@
 -- A core before any event.
-use Rattle.std.proofs.Common.{◌≡◌, List, [], ◌∷◌, length, take, drop, refl, ap, sym, subst, ◌∙◌, arith}
+use Rattle.std.proofs.Common.{◌≡◌, ℕ, List, [], ◌∷◌, length, take, drop, refl, ap, sym, subst, ◌∙◌, arith}
 use Rattle.pyd_translate.specs.Laws.{BlockOrder, IsInOrder, IsDoneBelow}
 use Rattle.pyd_translate.specs.Matching.{AreBelow, AreNumbered}
 use Rattle.pyd_translate.specs.Slots.{unbound_slots}
@@ -10,7 +10,7 @@ use Rattle.pyd_runs.specs.Laws.{IsRunnable}
 use Rattle.pyd_runs.specs.Plans.{Plan}
 use Rattle.pyd_runs.specs.Replay.{IsLegal, IsLegalFrom, after, replay}
 use Rattle.pyd_core.specs.declared.keeper.Core.{Core}
-use Rattle.pyd_core.specs.Cores.{HasLossRoom, IsCore, IsFew, IsTied, plan_of}
+use Rattle.pyd_core.specs.Cores.{HasRoom, IsCore, IsFew, IsTied, plan_of}
 use Rattle.pyd_core.specs.Starting.{HasFirst}
 
 -- a core of such parts
@@ -42,27 +42,33 @@ module _ (order : BlockOrder) (c : Core) (b : HasBegun c) where
   in_order : IsInOrder 0 (module_piece (plan_of c)) IsDoneBelow
   in_order = script_order order (plan_of c)
 
+  -- there are as many numbers as nodes
+  numbered : (n : ℕ) → n ≡ length c.line.nodes.items → n ≡ (first_state (plan_of c)).graph.next
+  numbered n all =
+      let is = in_order.next in
+      let nodes : length c.line.nodes.items ≡ length (module_piece (plan_of c)).nodes
+      = ap length b.parts.nodes in
+      omega (arith, is, nodes, all)
+
   first_tied : IsTied c (first_state (plan_of c))
   first_tied = record {
-    graph = record {
-      past = sym (ap (λ n. take n c.line.nodes.items) b.parts.settled);
-      chain = sym (ap (λ n. drop n c.line.nodes.items) b.parts.settled ∙ b.parts.nodes);
-      driver = sym b.parts.desk.kept;
-      ports = b.parts.desk.ports (subst (AreNumbered 0) (sym b.parts.nodes) in_order.nodes);
+    state = record {
+      graph = record {
+        past = sym (ap (λ n. take n c.line.nodes.items) b.parts.settled);
+        chain = sym (ap (λ n. drop n c.line.nodes.items) b.parts.settled ∙ b.parts.nodes);
+        driver = sym b.parts.desk.kept;
+        ports = b.parts.desk.ports (subst (AreNumbered 0) (sym b.parts.nodes) in_order.nodes);
+      };
+      desk = sym b.parts.desk.desk;
+      lost = sym b.parts.desk.lost;
+      marks = numbered (length c.desk.marks.items) b.parts.desk.marks;
+      driver = numbered (length c.desk.driver.items) b.parts.desk.driver;
     };
-    next =
-        let is = in_order.next in
-        let all : length c.line.nodes.items ≡ length (module_piece (plan_of c)).nodes
-        = ap length b.parts.nodes in
-        let marks = b.parts.desk.marks in
-        omega (arith, is, all, marks);
     end = ap end_at (sym b.parts.nodes) ∙ sym b.end;
-    desk = sym b.parts.desk.desk;
-    lost = sym b.parts.desk.lost;
     losses = sym (ap (λ n. drop n c.setup.losses) b.lost);
   }
 
-  first_room : HasLossRoom c
+  first_room : HasRoom 0 c
   first_room =
       let none = ap length b.parts.journal in
       let all = ap (λ n. length (drop n c.setup.losses)) b.lost in
@@ -79,7 +85,6 @@ module _ (order : BlockOrder) (c : Core) (b : HasBegun c) where
         tied = subst (IsTied c) none.0 first_tied;
         places = record {
           settled = let z = b.parts.settled in omega (arith, z);
-          driver = b.parts.desk.driver ∙ sym b.parts.desk.marks;
           stores = b.parts.desk.stores;
           alive = b.parts.desk.alive;
           seats = b.parts.seats;

@@ -1,7 +1,8 @@
 -- The number of each seat's entries after one more.
-use Rattle.std.proofs.Common.{◌≡◌, ◌≢◌, ℕ, ◌+◌, ◌<◌, List, [], ◌∷◌, ◌++◌, length, get_or, set, inl, inr, ap, sym, subst, ◌∙◌, arith, length-set}
+use Rattle.std.proofs.Common.{◌≡◌, ◌≢◌, ℕ, ◌+◌, ◌^◌, ◌==◌, ◌<◌, List, [], ◌∷◌, ◌++◌, length, get_or, set, inl, inr, ap, sym, subst, ◌∙◌, arith, length-set}
 use Rattle.std.proofs.lemmas.List.{get_or-set_same, get_or-set_other}
 use Rattle.std.proofs.lemmas.List.Elements.{All-nil, All-cons}
+use Rattle.std.proofs.lemmas.List.Sums.{count_by-le-length}
 use Rattle.pyd_board.specs.declared.event.Event.{Event}
 use Rattle.pyd_board.specs.Histories.{entries}
 use Rattle.pyd_board.proofs.Extending.{entries-append, entries_own, entries_none}
@@ -40,3 +41,12 @@ counted_more counts journal seat e own within are s below =
           let none : entries s (e ∷ []) ≡ 0 = other seat s e own apart in
           omega arith
     ]
+
+-- one more is counted without overflow, where a journal is short enough
+pub count_fits : (counts : List ℕ) (journal : List Event) (seat : ℕ) → seat < length counts
+    → ((s : ℕ) → s < length counts → get_or counts s 0 ≡ entries s journal)
+    → length journal < 2 ^ 63 → get_or counts seat 0 + 1 < 2 ^ 64
+count_fits counts journal seat within are short =
+    let counted = are seat within in
+    let few = count_by-le-length (λ (e : Event). e.by == seat) journal in
+    omega (arith, counted, few, short)

@@ -1,12 +1,9 @@
--- What a machine that is lost takes with it, but for tickets.
-use Rattle.std.specs.Prelude.{ℕ}
-use Rattle.pyd_runs.specs.Desks.{Desk}
-use Rattle.pyd_runs.specs.Losses.{held_elsewhere, stores_without, undone_with}
+-- The losses that come before a seat does anything else.
+use Rattle.std.specs.Prelude.{ℕ, List, [], cond, is_some}
+use Rattle.pyd_board.specs.declared.event.Event.{Event}
+use Rattle.pyd_runs.specs.Effects.{State}
+use Rattle.pyd_runs.specs.NextLosses.{due_losses}
 
--- a desk without a machine's store and claims, and with all tickets
-abbrev pub cleared : ℕ → Desk → Desk
-cleared machine d = record d {
-  stores = stores_without machine d.stores;
-  claim = λ k. held_elsewhere machine (d.claim k);
-  undone = λ k attempt. undone_with machine attempt (d.claim k) (d.undone k attempt);
-}
+-- the losses by a seat that are due in a state, none once the run has ended
+abbrev pub losses_by : ℕ → State → List Event
+losses_by seat s = cond (is_some s.graph.end) [] (due_losses seat s)

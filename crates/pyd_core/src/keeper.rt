@@ -1,9 +1,8 @@
 //! A run as far as it has come.
 
-use crate::desk::Desk;
-use crate::line::Line;
 use crate::log::Log;
 use pyd_board::Setup;
+use pyd_desk::{Desk, Line};
 use pyd_scope::Program;
 use pyd_value::End;
 use std::alloc::Global;

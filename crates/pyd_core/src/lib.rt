@@ -1,26 +1,19 @@
-//! The cluster: the graph of a run, which grows and settles, and the machines that do its jobs.
+//! The cluster: a run as far as it has come, and the events that take it on.
 #![tactic(auto)]
 
-mod adding;
-mod copying;
-mod desk;
-mod dropping;
-mod finding;
-mod growing;
-mod jobs;
+mod claiming;
+mod ending;
+mod facts;
+mod finishing;
 mod keeper;
-mod line;
 mod log;
 mod losing;
-mod marks;
-mod moves;
-mod numbering;
-mod passing;
-mod reading;
-mod redirecting;
-mod replacing;
+mod ordering;
+mod placing;
+mod preparing;
+mod refining;
+mod rooms;
+mod settling;
 mod starting;
-mod stores;
-mod tickets;
 mod trimming;
-mod works;
+mod wanting;

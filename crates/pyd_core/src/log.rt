@@ -1,5 +1,5 @@
 //! The journal of a run.
-ghost use Rattle.std.specs.Prelude.{◌≡◌, ◌<◌, ◌≤◌, ◌+◌, ◌∷◌, [], ◌++◌, OnOk, get_or, length, vec_len, vec_capacity};
+ghost use Rattle.std.specs.Prelude.{◌≡◌, ◌<◌, ◌≤◌, ◌+◌, ◌∷◌, [], ◌++◌, OnOk, length, vec_len, vec_capacity};
 ghost use Rattle.pyd_boards.specs.Boards.{entry};
 ghost use Rattle.pyd_core.specs.Log.{IsCounted};
 
@@ -31,7 +31,6 @@ impl Log {
         requires room { vec_len self.old.journal < vec_capacity self.old.journal }
         requires seat { seat < length self.old.counts.items }
         requires counted { IsCounted self.old }
-        requires bound { get_or self.old.counts.items seat 0 ≤ vec_len self.old.journal }
         ensures journal { self.new.journal.items ≡ self.old.journal.items
             ++ entry self.old.journal.items seat act ∷ [] }
         ensures counted { IsCounted self.new }

@@ -1,48 +1,96 @@
-//! What a machine that is lost takes with it.
-ghost use Rattle.std.specs.Prelude.{◌≡◌, ◌<◌, ◌≤◌, All, drop, length, true};
-ghost use Rattle.pyd_runs.specs.Desks.{put_at};
-ghost use Rattle.pyd_runs.specs.Effects as runs;
-ghost use Rattle.pyd_runs.specs.Effects.{State};
-ghost use Rattle.pyd_runs.specs.Plans.{Plan};
-ghost use Rattle.pyd_runs.specs.Sound.{IsSound};
-ghost use Rattle.pyd_core.specs.Desks.{desk_of, is_lost, with_books};
-ghost use Rattle.pyd_core.specs.Lines.{IsGraphOf};
-ghost use Rattle.pyd_core.specs.Losing.{cleared};
+//! Losses that are due.
+ghost use Rattle.std.specs.Prelude.{◌≡◌, suc, drop, None, All};
+ghost use Rattle.pyd_board.specs.declared.event.Act.TheVariants.{Lose};
+ghost use Rattle.pyd_runs.specs.Enabled.{CanLose, IsLoss, IsUnbarred, due};
+ghost use Rattle.pyd_runs.specs.Losses as runs;
+ghost use Rattle.pyd_runs.specs.NextLosses.{due_losses};
+ghost use Rattle.pyd_runs.specs.Plans.{IsSeat};
+ghost use Rattle.pyd_core.specs.Cores.{IsCore, plan_of, state_of};
+ghost use Rattle.pyd_core.specs.Losing.{losses_by};
+ghost use Rattle.pyd_core.specs.Steps.{ComesBy, KeepsRoom, Makes};
 
-use crate::desk::Desk;
-use crate::line::Line;
-use crate::stores::{clear_store, mark_lost};
-use pyd_store::a_store_is_a_map;
+use crate::keeper::Core;
+use pyd_board::{Act, Loss};
+use pyd_runs::{beginning_law, desk_law, journal_law, only_due_law, run_law, step_law};
 
-impl Desk {
-    /// A machine's store is emptied, and its claims are undone.
-    fn clear(&mut self, machine: u32)
-        requires store { machine < length self.old.stores.items }
-        requires alive { machine < length self.old.alive.items }
-        ensures desk { desk_of self.new ≡ cleared machine (desk_of self.old) }
-        ensures lost { is_lost self.new.alive.items
-            ≡ put_at (is_lost self.old.alive.items) machine true }
-        ensures marks { self.new.marks ≡ self.old.marks }
-        ensures driver { self.new.driver ≡ self.old.driver }
+impl Core {
+    /// All losses that are due come, one after another, by a seat. Takes no memory.
+    pub(crate) fn lose_due(&mut self, seat: u32)
+        requires core { IsCore self.old }
+        requires seat { IsSeat (plan_of self.old) seat }
+        requires driver { All (λ e. IsLoss e.act) self.old.log.journal.items → seat ≡ 0 }
+        ensures losses { ComesBy self.old self.new (losses_by seat (state_of self.old)) }
+        ensures none_due { IsUnbarred (state_of self.new) }
+        ensures room { KeepsRoom self.old self.new }
     {
-        a_store_is_a_map();
-        clear_store(&mut self.stores, machine);
-        mark_lost(&mut self.alive, machine);
+        if self.has_ended() {
+            return;
+        }
+        self.lose_all(seat);
     }
 
-    /// A machine is lost: its store is emptied, its claims are undone, and the tickets of nodes that
-    /// are no longer ready die.
-    pub(crate) fn lose(&mut self, line: &Line, machine: u32)
-        requires line { line.now.settled ≤ length line.now.nodes.items }
-        requires numbered { All (λ n. n.id < length self.old.marks.items) line.now.nodes.items }
-        requires store { machine < length self.old.stores.items }
-        requires alive { machine < length self.old.alive.items }
-        ensures { (p : Plan) (s : State) → IsSound p (with_books s self.old)
-            → IsGraphOf line.now self.old (with_books s self.old).graph
-            → with_books (record s { losses = drop 1 s.losses }) self.new
-            ≡ runs.lost_with (with_books s self.old) machine }
+    /// All losses that are due come, one after another, by a seat, while the run goes on.
+    fn lose_all(&mut self, seat: u32)
+        requires core { IsCore self.old }
+        requires seat { IsSeat (plan_of self.old) seat }
+        requires driver { All (λ e. IsLoss e.act) self.old.log.journal.items → seat ≡ 0 }
+        requires goes_on { (state_of self.old).graph.end ≡ None }
+        ensures losses { ComesBy self.old self.new (due_losses seat (state_of self.old)) }
+        ensures none_due { due (state_of self.new) ≡ None }
+        ensures room { KeepsRoom self.old self.new }
     {
-        self.clear(machine);
-        self.drop_tickets(line);
+        beginning_law();
+        only_due_law();
+        step_law();
+        desk_law();
+        journal_law();
+        while let Some(machine) = self.due_machine() {
+            self.lose(seat, machine);
+        }
+    }
+
+    /// The machine whose loss is due.
+    fn due_machine(&self) -> Option<u32>
+        requires { IsCore self.now }
+        ensures { result ≡ due (state_of self.now) }
+    {
+        journal_law();
+        due_at(
+            self.setup.losses.as_slice(),
+            self.lost,
+            self.log.journal.len(),
+        )
+    }
+
+    /// The loss of a machine comes, by a seat.
+    fn lose(&mut self, seat: u32, machine: u32)
+        requires core { IsCore self.old }
+        requires seat { IsSeat (plan_of self.old) seat }
+        requires can { CanLose (state_of self.old) seat machine }
+        ensures makes { Makes self.old self.new seat (Lose machine) }
+        ensures lost { self.new.lost ≡ suc self.old.lost }
+        ensures room { KeepsRoom self.old self.new }
+    {
+        run_law();
+        step_law();
+        journal_law();
+        self.desk.lose(&self.line, machine);
+        self.log.note(seat, Act::Lose(machine));
+        self.lost += 1;
+    }
+}
+
+/// The machine of the loss at a place of a script, where it is due behind so many events.
+#[tactic(auto, using(crate::proofs::Scripted::due_some, crate::proofs::Scripted::due_none))]
+fn due_at(losses: &[Loss], place: usize, events: usize) -> Option<u32>
+    ensures { result ≡ runs.due_at events (drop place losses.now) }
+{
+    let Some(loss) = losses.get(place) else {
+        return None;
+    };
+    if loss.event as usize <= events {
+        Some(loss.machine)
+    } else {
+        None
     }
 }

@@ -1,103 +1,155 @@
-//! A past node goes.
-ghost use Rattle.std.specs.Prelude.{◌≡◌, ◌≢◌, ◌<◌, ◌≤◌, ◌+◌, ◌++◌, ℕ, All, Some, None, drop, length, set, take};
+//! Past nodes that nobody reaches.
+ghost use Rattle.std.specs.Prelude.{◌≡◌, ◌<◌, ◌+◌, ℕ, All, None, IfOk, drop, length};
 ghost use Rattle.std.specs.List.{slice_get};
-ghost use Rattle.pyd_ir.specs.declared.node.Node.{Node};
-ghost use Rattle.pyd_core.specs.Desks.{mark_at, outcome_in};
-ghost use Rattle.pyd_core.specs.Lines.{chain_of, past_of};
-ghost use Rattle.pyd_core.specs.Trimming as spec;
+ghost use Rattle.pyd_board.specs.declared.event.Act.TheVariants.{Trim};
+ghost use Rattle.pyd_lineage.specs.Lineage.{AreUnreached, IsInOrder};
+ghost use Rattle.pyd_runs.specs.Enabled.{CanTrim, IsLoss, IsQuiet};
+ghost use Rattle.pyd_runs.specs.Plans.{IsSeat};
+ghost use Rattle.pyd_runs.specs.Records.{node_at};
+ghost use Rattle.pyd_desk.specs.Lines.{chain_of, past_of};
+ghost use Rattle.pyd_core.specs.Cores.{HasRoom, IsCore, plan_of, state_of};
+ghost use Rattle.pyd_core.specs.Steps.{ComesBy, Makes, UsesRoom};
+ghost use Rattle.pyd_core.specs.Trimmings as spec;
 
-use crate::desk::{Desk, Mark, PortKind};
-use crate::line::Line;
-use pyd_store::{Store, a_store_is_a_map};
+use crate::keeper::Core;
+use pyd_board::Act;
+use pyd_desk::Line;
+use pyd_ir::Node;
+use pyd_lineage::trim_among;
+use pyd_runs::{
+    beginning_law, in_order_law, journal_law, reach_law, run_law, settle_law, step_law, trimmed_law,
+};
+use pyd_value::{List, NoMemory};
+use std::alloc::Global;
 
-impl Desk {
-    /// The node at a place of the past goes, with its record, and so do the tickets of nodes that are
-    /// no longer ready. Takes no memory.
-    pub(crate) fn forget(&mut self, line: &mut Line, at: usize)
-        requires place { at < line.old.settled }
-        requires nodes { line.old.settled ≤ length line.old.nodes.items }
-        requires numbered { All (λ n. n.id < length self.old.marks.items) line.old.nodes.items }
-        ensures { spec.IsTrimmed line.old self.old at line.new self.new }
+impl Core {
+    /// A seat trims a past node that the chain doesn't reach. Takes no memory.
+    pub(crate) fn trim(&mut self, seat: u32, node: u64)
+        requires core { IsCore self.old }
+        requires quiet { IsQuiet (state_of self.old) }
+        requires seat { IsSeat (plan_of self.old) seat }
+        requires room { HasRoom 1 self.old }
+        requires may { CanTrim (state_of self.old) node }
+        ensures makes { Makes self.old self.new seat (Trim node) }
+        ensures room { UsesRoom self.old self.new }
     {
-        let id = line.past_number(at);
-        line.take_out(at);
-        self.forget_record(id);
-        self.drop_tickets(line);
+        run_law();
+        step_law();
+        journal_law();
+        let at = place_of(self.line.past(), node);
+        self.desk.forget(&mut self.line, at);
+        self.log.note(seat, Act::Trim(node));
     }
 
-    /// A node has no record in a store and no ticket any more.
-    fn forget_record(&mut self, node: u64)
-        requires { node < length self.old.marks.items }
-        ensures { spec.HasForgotten node self.old self.new }
+    /// A seat trims nodes, in this order, each behind the losses due then. Takes no memory.
+    pub(crate) fn trim_all(&mut self, seat: u32, nodes: &[u64])
+        requires core { IsCore self.old }
+        requires seat { IsSeat (plan_of self.old) seat }
+        requires driver { All (λ e. IsLoss e.act) self.old.log.journal.items → seat ≡ 0 }
+        requires goes_on { (state_of self.old).graph.end ≡ None }
+        requires may { spec.AreTrimmable (state_of self.old) nodes.now }
+        requires room { HasRoom (length nodes.now) self.old }
+        ensures trims { ComesBy self.old self.new
+            (spec.trims_by (plan_of self.old) seat (state_of self.old) nodes.now) }
+        ensures goes_on { (state_of self.new).graph.end ≡ None }
+        ensures room { (n : ℕ) → HasRoom (length nodes.now + n) self.old → HasRoom n self.new }
     {
-        let machine = forget_mark(&mut self.marks, node);
-        remove_from(&mut self.stores, machine, node);
+        beginning_law();
+        for node in nodes {
+            self.trim_next(seat, *node);
+        }
+    }
+
+    /// The losses that are due come, and then a seat trims a node.
+    fn trim_next(&mut self, seat: u32, node: u64)
+        requires core { IsCore self.old }
+        requires seat { IsSeat (plan_of self.old) seat }
+        requires driver { All (λ e. IsLoss e.act) self.old.log.journal.items → seat ≡ 0 }
+        requires goes_on { (state_of self.old).graph.end ≡ None }
+        requires may { CanTrim (state_of self.old) node }
+        requires room { HasRoom 1 self.old }
+        ensures trims { ComesBy self.old self.new
+            (spec.trim_by seat (state_of self.old) node) }
+        ensures leaves { spec.LeavesTrims self.old self.new node }
+        ensures room { UsesRoom self.old self.new }
+    {
+        beginning_law();
+        journal_law();
+        trimmed_law();
+        self.lose_due(seat);
+        self.trim(seat, node);
+    }
+
+    /// The numbers of the past nodes, in list order, that the chain doesn't reach once its head is
+    /// settled, which stays in the past or is gone.
+    pub(crate) fn unreached_behind_head(
+        &self,
+        alloc: Global,
+        stays: bool,
+    ) -> Result<List<u64>, NoMemory>
+        requires core { IsCore self.now }
+        requires goes_on { (state_of self.now).graph.end ≡ None }
+        requires order { IsInOrder
+            (spec.past_behind stays (state_of self.now).graph.past (state_of self.now).graph.chain)
+            (drop 1 (state_of self.now).graph.chain) }
+        ensures { IfOk result (AreUnreached
+            (spec.past_behind stays (state_of self.now).graph.past (state_of self.now).graph.chain)
+            (drop 1 (state_of self.now).graph.chain)) }
+    {
+        run_law();
+        trim_among(
+            alloc,
+            past_behind(&self.line, stays),
+            chain_behind(&self.line),
+        )
     }
 }
 
-impl Line {
-    /// The number of the node at a place of the past.
-    fn past_number(&self, at: usize) -> u64
-        requires place { at < self.now.settled }
-        requires nodes { self.now.settled ≤ length self.now.nodes.items }
-        ensures number { (n : Node) → slice_get (past_of self.now) at ≡ Some n → result ≡ n.id }
-        ensures among { (count : ℕ) → All (λ n. n.id < count) self.now.nodes.items
-            → result < count }
-    {
-        self.nodes[at].id
-    }
-
-    /// The node at a place of the past goes.
-    #[tactic(auto, using(crate::proofs::Left::left_past, crate::proofs::Left::left_chain))]
-    fn take_out(&mut self, at: usize)
-        requires place { at < self.old.settled }
-        requires nodes { self.old.settled ≤ length self.old.nodes.items }
-        ensures past { past_of self.new
-            ≡ take at (past_of self.old) ++ drop (at + 1) (past_of self.old) }
-        ensures chain { chain_of self.new ≡ chain_of self.old }
-        ensures nodes { self.new.nodes.items
-            ≡ take at self.old.nodes.items ++ drop (at + 1) self.old.nodes.items }
-        ensures settled { self.new.settled ≤ length self.new.nodes.items }
-    {
-        self.settled -= 1;
-        drop(self.nodes.remove(at));
-    }
-}
-
-/// A mark forgets its ticket, its ports and the machine that has its record, which is the answer.
-fn forget_mark(marks: &mut Vec<Mark>, node: u64) -> Option<u32>
-    requires { node < length marks.old.items }
-    ensures marks { marks.new.items
-        ≡ set marks.old.items node (spec.forgotten (mark_at marks.old.items node)) }
-    ensures machine { result ≡ (mark_at marks.old.items node).machine }
+/// Past nodes that the chain doesn't reach may be trimmed, one after the other.
+pub(crate) fn unreached_law()
+    ensures { spec.UnreachedLaw }
 {
-    let mark = &mut marks[node as usize];
-    mark.ticket = None;
-    mark.ports = PortKind::One;
-    mark.machine.take()
+    reach_law();
 }
 
-/// The outcome of a node goes, in the store of a machine.
-fn remove_from(stores: &mut Vec<Store>, machine: Option<u32>, node: u64)
-    ensures kept { (m k : ℕ) → k ≢ node
-        → outcome_in stores.new.items m k ≡ outcome_in stores.old.items m k }
-    ensures removed { (m : ℕ) → machine ≡ Some m
-        → outcome_in stores.new.items m node ≡ None }
+/// The two lists of nodes stand in order behind a head that is settled with a value.
+pub(crate) fn behind_head_law()
+    ensures { spec.BehindHeadLaw }
 {
-    if let Some(machine) = machine {
-        remove_at(stores, machine, node);
+    in_order_law();
+    settle_law();
+}
+
+/// The place of the first node of a number.
+fn place_of(nodes: &[Node], number: u64) -> usize
+    ensures { slice_get nodes.now result ≡ node_at nodes.now number }
+{
+    for (at, node) in nodes.iter().enumerate() {
+        if node.id == number {
+            return at;
+        }
+    }
+    nodes.len()
+}
+
+/// The past nodes once the head of the chain is settled, which stays there or is gone.
+#[tactic(auto, using(crate::proofs::Unreached::past_and_head))]
+fn past_behind(line: &Line, stays: bool) -> &[Node]
+    requires { line.now.settled < length line.now.nodes.items }
+    ensures { result.now ≡ spec.past_behind stays (past_of line.now) (chain_of line.now) }
+{
+    if stays {
+        &line.nodes[..line.settled + 1]
+    } else {
+        &line.nodes[..line.settled]
     }
 }
 
-/// The same of a machine.
-#[tactic(auto, using(crate::proofs::Removed::removed_there, crate::proofs::Removed::removed_apart, crate::proofs::Storing::past_store))]
-fn remove_at(stores: &mut Vec<Store>, machine: u32, node: u64)
-    ensures kept { (m k : ℕ) → k ≢ node
-        → outcome_in stores.new.items m k ≡ outcome_in stores.old.items m k }
-    ensures removed { outcome_in stores.new.items machine node ≡ None }
+/// The chain behind its head.
+#[tactic(auto, using(crate::proofs::Unreached::chain_but_head))]
+fn chain_behind(line: &Line) -> &[Node]
+    requires { line.now.settled < length line.now.nodes.items }
+    ensures { result.now ≡ drop 1 (chain_of line.now) }
 {
-    a_store_is_a_map();
-    if (machine as usize) < stores.len() {
-        stores[machine as usize].remove(node);
-    }
+    &line.nodes[line.settled + 1..]
 }

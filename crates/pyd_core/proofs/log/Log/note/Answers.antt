@@ -2,8 +2,20 @@ use Rattle.std.proofs.Common.{◌≡◌, ℕ, ◌+◌, ◌<◌, List, ◌++◌, 
 use Rattle.std.proofs.lemmas.Grind.{common_steps}
 use Rattle.pyd_board.specs.declared.event.Event.{Event}
 use Rattle.pyd_board.specs.Histories.{entries}
-use Rattle.pyd_core.proofs.Logs.{counted_more}
+use Rattle.pyd_core.proofs.Logs.{count_fits, counted_more}
 use Rattle.pyd_core.proofs.log.Log.note.Goals as goal
+
+pub overflow_add-nth : goal.overflow_add-nth
+overflow_add-nth c =
+    let counts : List ℕ = c.args.self.now.counts.items in
+    let seat : ℕ = c.args.seat in
+    let n : get_or counts seat 0 ≡ c.index-nth.result.now = grind (arith, common_steps, c.index-nth.ensures, c.requires.seat) in
+    let room = c.requires.room in
+    let small = c.args.self.now.journal.small in
+    let all = c.args.self.now.journal.ok.0 in
+    let fits = count_fits counts c.args.self.now.journal.items seat c.requires.seat
+    c.requires.counted (omega (arith, room, small, all)) in
+    omega (arith, fits, n)
 
 pub returns-clause-counted : goal.returns-clause-counted
 returns-clause-counted c =

@@ -1,0 +1,23 @@
+mod Images
+mod Numbers
+mod Ported
+pub mod Standing
+mod Written
+mod Becoming
+mod Lined
+mod Storing
+mod Moving
+mod Cleared
+mod Dropped
+mod Dying
+mod Losses
+mod HeadPassing
+mod Placing
+mod Told
+mod Grown
+mod Refined
+mod Left
+mod Removed
+mod Live
+mod Forgotten
+mod Started

@@ -1,0 +1,12 @@
+pub mod Desks
+pub mod Works
+pub mod Reading
+pub mod Lines
+pub mod States
+pub mod Losing
+pub mod Dropping
+pub mod Tickets
+pub mod Passing
+pub mod Growing
+pub mod Trimming
+pub mod Starting
