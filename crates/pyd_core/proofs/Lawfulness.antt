@@ -25,13 +25,13 @@ use Rattle.pyd_runs.specs.Laws.{BarLaw, IsRunnable, RunLaw}
 use Rattle.pyd_runs.specs.NextLosses.{LeftLaw, is_lost_by}
 use Rattle.pyd_runs.specs.Plans.{IsSeatOf, Plan}
 use Rattle.pyd_runs.specs.Records.{job_by, job_with, node_at, ready, recorded, task_by}
-use Rattle.pyd_runs.specs.Replay.{IsLegal, replay}
+use Rattle.pyd_runs.specs.Replay.{IsLegal, IsLegalFrom, after, replay}
 use Rattle.pyd_runs.specs.Sound.{IsSound}
 use Rattle.pyd_runs.proofs.Going.{seat_there}
 use Rattle.pyd_runs.proofs.Putting.{if_cases, same_test, test_same}
 use Rattle.pyd_runs.proofs.Standing.{found_there}
 use Rattle.pyd_core.specs.Claiming.{is_for, live_job}
-use Rattle.pyd_core.specs.Facts.{NextLaw, facts_of, may_come, plan_by}
+use Rattle.pyd_core.specs.Facts.{EndLaw, LawfulLaw, NextLaw, facts_of, may_come, no_facts, plan_by}
 use Rattle.pyd_core.proofs.Stepped.{entry_enabled}
 
 -- the machine of a loss
@@ -165,14 +165,17 @@ module _ (laws : LawfulLaws) (p : Plan) (es : List Event) where
       ∙ ap is_some (laws.desk p s e of_desk).end ∙ ended
 
   -- where no loss may come, none is due
-  none_due : s.graph.end ≡ None → NoneIn (facts_of p) (may_come p) loses 0 es → due s ≡ None
-  none_due goes_on none = by_due (due s) refl
+  none_due : IsRunnable p → s.graph.end ≡ None → NoneIn (facts_of p) (may_come p) loses 0 es
+      → due s ≡ None
+  none_due runnable goes_on none = by_due (due s) refl
     where
       by_due : (o : Option ℕ) → due s ≡ o → o ≡ None
       by_due None is = refl
-      by_due (Some machine) is = absurd (none (entry es 0 (Lose machine))
-          (entry_enabled laws.journal p es 0 (Lose machine) (omega arith)
-          (record { goes_on = goes_on; is_due = is; by = λ all. refl }))
+      by_due (Some machine) is = absurd (none (entry es 0 (Lose machine)) (
+        runnable,
+        entry_enabled laws.journal p es 0 (Lose machine) (omega arith)
+            (record { goes_on = goes_on; is_due = is; by = λ all. refl }),
+      )
           (record { of_kind = refl; in_run = refl }))
 
   -- the ticket behind a job
@@ -216,43 +219,73 @@ module _ (laws : LawfulLaws) (run : RunName) (es : List Event) where
   abbrev t : State
   t = replay (plan_by run) es
 
-  job_is_live : (who : Who) (k attempt : ℕ) → IsSeatIn run.setup who
+  job_is_live : IsRunnable p → (who : Who) (k attempt : ℕ) → IsSeatIn run.setup who
       → NoneIn (facts_of p) (may_come p) loses 0 es → is_some t.graph.end ≡ false
       → t.lost who.machine ≡ false → is_some (live_job t k attempt) ≡ true
-      → Enabled p t (entry es who.seat (Claim k attempt who.machine))
-  job_is_live who k attempt worker none goes_on lives is =
+      → may_come p es (entry es who.seat (Claim k attempt who.machine))
+  job_is_live runnable who k attempt worker none goes_on lives is =
       let job = some_of (live_job t k attempt) is in
       let ticket = ticket_behind laws p es k attempt job.0 job.1 in
       let end = no_end t.graph.end goes_on in
-      let of : IsSeatOf p who.machine who.seat = record { from = worker.from; to = worker.to } in
-      entry_enabled laws.journal p es who.seat (Claim k attempt who.machine)
-      (seat_there p who.machine who.seat worker.machine of) (
-        record { goes_on = end; none_due = none_due laws p es end none },
-        record {
-          ticket = ticket.placed;
-          is_live = ticket.is_there;
-          of_attempt = ticket.of_attempt;
-          lives = record { is_machine = worker.machine; not_lost = lives };
-          by_seat = of;
-        },
+      let of : IsSeatOf p who.machine who.seat = record { from = worker.from; to = worker.to } in (
+        runnable,
+        entry_enabled laws.journal p es who.seat (Claim k attempt who.machine)
+            (seat_there p who.machine who.seat worker.machine of) (
+              record { goes_on = end; none_due = none_due laws p es runnable end none },
+              record {
+                ticket = ticket.placed;
+                is_live = ticket.is_there;
+                of_attempt = ticket.of_attempt;
+                lives = record { is_machine = worker.machine; not_lost = lives };
+                by_seat = of;
+              },
+            ),
       )
 
-  -- all of it
-  pub lawful : IsRunnable p → IsLegal p es
+  -- all of it, behind a legal run
+  lawful_behind : IsRunnable p → IsLegal p es
       → AreLawful (run ∷ []) (facts_of p) (may_come p) es
-  lawful runnable legal =
+  lawful_behind runnable legal =
       let sound = laws.run p es runnable legal in
       record {
-        due_bars = λ loss e may is other same. due_bars laws p es loss e may is other;
-        ended_bars = λ e may ended. drops_alone p t e.by e.act may.act ended;
+        due_bars = λ loss e may is other same. due_bars laws p es loss e may.1 is other.1;
+        ended_bars = λ e may ended. drops_alone p t e.by e.act may.1.act ended;
         lost_stays = λ e may number machine is. lost_stays laws p es e machine is;
-        ended_stays = λ e may number ended. ended_stays laws p es e may ended;
-        has_job = λ e k attempt machine may is. has_job laws p es sound e k attempt machine may is;
+        ended_stays = λ e may number ended. ended_stays laws p es e may.1 ended;
+        has_job = λ e k attempt machine may is. has_job laws p es sound e k attempt machine may.1 is;
         job_is_live = λ who k attempt worker none goes_on lives is.
-            job_is_live who k attempt
+            job_is_live runnable who k attempt
             (All-head (λ (r : RunName). IsSeatIn r.setup who) run [] worker) none goes_on lives is;
         tells = λ k attempt job is. tells laws p es k attempt job is;
       }
+
+-- before any event no node has a job to be claimed
+no_first_job : (p : Plan) (k attempt : ℕ) → live_job (replay p []) k attempt ≡ None
+unfolding after
+no_first_job p k attempt = refl
+
+-- so none is told
+none_told_at_first : (p : Plan) (k attempt : ℕ)
+    → is_some (live_job (replay p []) k attempt) ≡ true → ⊥
+none_told_at_first p k attempt is =
+    let not : false ≡ true = ap is_some (sym (no_first_job p k attempt)) ∙ is in cc (not)
+
+-- before any event: a plan in which an event may come may be run, and no job is told
+lawful_at_first : LawfulLaws → (run : RunName)
+    → AreLawful (run ∷ []) (facts_of (plan_by run)) (may_come (plan_by run)) []
+unfolding IsLegalFrom
+lawful_at_first laws run =
+    let behind = λ (runnable : IsRunnable (plan_by run)). lawful_behind laws run [] runnable tt in
+    record {
+      due_bars = λ loss e may is other same. (behind may.0).due_bars loss e may is other same;
+      ended_bars = λ e may ended. (behind may.0).ended_bars e may ended;
+      lost_stays = λ e may number machine is. (behind may.0).lost_stays e may number machine is;
+      ended_stays = λ e may number ended. (behind may.0).ended_stays e may number ended;
+      has_job = λ e k attempt machine may is. (behind may.0).has_job e k attempt machine may is;
+      job_is_live = λ who k attempt worker none goes_on lives is.
+          absurd (none_told_at_first (plan_by run) k attempt is);
+      tells = λ k attempt job is. tells laws (plan_by run) [] k attempt job is;
+    }
 
 -- events that may come each in its turn make a legal run
 next_legal : StepLaw → (p : Plan) (es more : List Event) → IsLegal p es
@@ -261,21 +294,54 @@ unfolding AreNext
 next_legal step p es [] legal next = subst (IsLegal p) (sym (append-nil es)) legal
 next_legal step p es (e ∷ more) legal next =
     subst (IsLegal p) (append_assoc es (e ∷ []) more)
-    (next_legal step p (es ++ e ∷ []) more ((step p es e).legal legal next.0) next.1)
+    (next_legal step p (es ++ e ∷ []) more ((step p es e).legal legal next.0.1) next.1)
 
 -- and those of a legal run may come so
-legal_next : StepLaw → BeginningLaw → (p : Plan) (es more : List Event) → IsLegal p (es ++ more)
-    → AreNext (may_come p) es more
+legal_next : StepLaw → BeginningLaw → (p : Plan) → IsRunnable p → (es more : List Event)
+    → IsLegal p (es ++ more) → AreNext (may_come p) es more
 unfolding AreNext
-legal_next step beginning p es [] legal = tt
-legal_next step beginning p es (e ∷ more) legal =
+legal_next step beginning p runnable es [] legal = tt
+legal_next step beginning p runnable es (e ∷ more) legal =
     let all = subst (IsLegal p) (sym (append_assoc es (e ∷ []) more)) legal in (
-      (step p es e).enabled ((beginning p (es ++ e ∷ []) more).beginning all),
-      legal_next step beginning p (es ++ e ∷ []) more all,
+      (runnable, (step p es e).enabled ((beginning p (es ++ e ∷ []) more).beginning all)),
+      legal_next step beginning p runnable (es ++ e ∷ []) more all,
     )
 
 pub comes_next : StepLaw → BeginningLaw → NextLaw
 comes_next step beginning p es more = record {
   legal = next_legal step p es more;
-  next = legal_next step beginning p es more;
+  next = λ runnable. legal_next step beginning p runnable es more;
 }
+
+-- of one run
+lawful_of_one : LawfulLaws → (run : RunName) (es : List Event)
+    → AreNext (may_come (plan_by run)) [] es
+    → AreLawful (run ∷ []) (facts_of (plan_by run)) (may_come (plan_by run)) es
+unfolding AreNext IsLegalFrom
+lawful_of_one laws run [] next = lawful_at_first laws run
+lawful_of_one laws run (e ∷ es) next =
+    lawful_behind laws run (e ∷ es) next.0.0
+    (next_legal laws.step (plan_by run) [] (e ∷ es) tt next)
+
+-- where there isn't one run, nothing may come and nothing is told
+lawful_without : (name : List RunName) (es : List Event)
+    → AreLawful name no_facts (λ (events : List Event) (e : Event). ⊥) es
+lawful_without name es = record {
+  due_bars = λ loss e may is other same. absurd may;
+  ended_bars = λ e may ended. absurd may;
+  lost_stays = λ e may number machine is. absurd may;
+  ended_stays = λ e may number ended. absurd may;
+  has_job = λ e k attempt machine may is. absurd may;
+  job_is_live = λ who k attempt worker none goes_on lives is. absurd (cc (is));
+  tells = λ k attempt job is. absurd (cc (is));
+}
+
+pub lawful : LawfulLaws → LawfulLaw
+lawful laws [] es next = lawful_without [] es
+lawful laws (run ∷ []) es next = lawful_of_one laws run es next
+lawful laws (run ∷ (other ∷ more)) es next = lawful_without (run ∷ (other ∷ more)) es
+
+pub ended_alike : EndLaw
+ended_alike [] h = refl
+ended_alike (run ∷ []) h = refl
+ended_alike (run ∷ (other ∷ more)) h = refl

@@ -8,20 +8,20 @@ mod Noted
 mod Claimed
 mod Attempts
 mod Ticketed
-mod Chosen
+pub mod Chosen
 mod Missing
 mod Awaited
 mod Openings
 mod Scripted
 mod Roomed
-mod Lost
-mod DueLosses
+pub mod Lost
+pub mod DueLosses
 mod Wanted
 mod Trimmed
-mod InRow
-mod Unreached
-mod Lawfulness
+pub mod InRow
+pub mod Unreached
+pub mod Lawfulness
 mod Behind
 mod Finishes
-mod Settled
+pub mod Settled
 mod Prepared

@@ -18,7 +18,7 @@ use pyd_value::NoMemory;
 impl Core {
     /// A seat of a machine claims an attempt of a node. Answers the node's job where the attempt is
     /// the node's live ticket; else, and where there is no memory, nothing but room has changed.
-    pub(crate) fn claim(
+    pub fn claim(
         &mut self,
         seat: u32,
         node: u64,

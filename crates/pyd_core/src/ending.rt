@@ -7,7 +7,7 @@ use pyd_value::End;
 
 impl Core {
     /// How the run has ended, if it has.
-    pub(crate) fn end(&self) -> Option<End>
+    pub fn end(&self) -> Option<End>
         requires { IsCore self.now }
         ensures { result ≡ (state_of self.now).graph.end }
     {
@@ -15,7 +15,7 @@ impl Core {
     }
 
     /// Whether the run has ended.
-    pub(crate) fn has_ended(&self) -> bool
+    pub fn has_ended(&self) -> bool
         requires { IsCore self.now }
         ensures { result ≡ is_some (state_of self.now).graph.end }
     {
@@ -23,7 +23,7 @@ impl Core {
     }
 
     /// Whether a machine is lost.
-    pub(crate) fn is_lost(&self, machine: u32) -> bool
+    pub fn is_lost(&self, machine: u32) -> bool
         requires { IsCore self.now }
         ensures { result ≡ (state_of self.now).lost machine }
     {

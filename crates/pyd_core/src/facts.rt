@@ -1,13 +1,13 @@
 //! What a run tells as a board: contracts of functions whose bodies only call the laws that they
 //! stand on.
-ghost use Rattle.pyd_core.specs.Facts.{LawfulLaw, NextLaw};
+ghost use Rattle.pyd_core.specs.Facts.{EndLaw, LawfulLaw, NextLaw};
 
 use pyd_runs::{
     bar_law, beginning_law, desk_law, journal_law, left_law, run_law, step_law, ticket_law,
 };
 
-/// Behind every legal run what is told goes with the events that may come.
-pub(crate) fn lawful_law()
+/// Behind events that came each in its turn what is told goes with the events that may come.
+pub fn lawful_law()
     ensures { LawfulLaw }
 {
     bar_law();
@@ -20,9 +20,14 @@ pub(crate) fn lawful_law()
 }
 
 /// Events may come each in its turn behind a legal run just where the whole run is legal.
-pub(crate) fn next_law()
+pub fn next_law()
     ensures { NextLaw }
 {
     beginning_law();
     step_law();
 }
+
+/// The end of a board of one run is there exactly where the run has ended.
+pub fn end_law()
+    ensures { EndLaw }
+{}

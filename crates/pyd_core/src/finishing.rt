@@ -28,7 +28,7 @@ impl Core {
     /// A seat of a machine gives what was done of a job that it holds, and holds it no more. The
     /// outcome is dropped where the machine is lost, or the run has ended. Where there is no
     /// memory, nothing but room has changed.
-    pub(crate) fn finish(
+    pub fn finish(
         &mut self,
         seat: u32,
         node: u64,
@@ -66,8 +66,8 @@ impl Core {
         self.is_lost(machine) || self.has_ended()
     }
 
-    /// A claim that is in vain is let go.
-    fn let_go(&mut self, seat: u32, node: u64, attempt: u64, machine: u32)
+    /// A claim that is in vain is let go, for which there is an entry's room. Takes no memory.
+    pub fn let_go(&mut self, seat: u32, node: u64, attempt: u64, machine: u32)
         requires core { IsCore self.old }
         requires unbarred { IsUnbarred (state_of self.old) }
         requires holds { HoldsClaim (state_of self.old) seat node attempt machine }

@@ -9,24 +9,16 @@ use std::alloc::Global;
 
 /// What a cluster keeps of its run, beside its sink and its placer.
 #[derive(Drop)]
-pub(crate) struct Core {
+pub struct Core {
     /// Where later calls take their memory.
-    pub(crate) alloc: Global,
-    pub(crate) program: Program,
-    pub(crate) setup: Setup,
-    pub(crate) line: Line,
+    pub alloc: Global,
+    pub program: Program,
+    pub setup: Setup,
+    pub line: Line,
     /// As many marks as numbers were given to nodes.
-    pub(crate) desk: Desk,
-    pub(crate) log: Log,
+    pub desk: Desk,
+    pub log: Log,
     /// How many losses of the script have come.
-    pub(crate) lost: usize,
-    pub(crate) end: Option<End>,
-}
-
-/// What a core keeps of nodes, of machines and of events.
-#[derive(Drop)]
-pub(crate) struct Parts {
-    pub(crate) line: Line,
-    pub(crate) desk: Desk,
-    pub(crate) log: Log,
+    pub lost: usize,
+    pub end: Option<End>,
 }

@@ -1,4 +1,4 @@
-//! The cluster: a run as far as it has come, and the events that take it on.
+//! A run as far as it has come, and the events that take it on.
 #![tactic(auto)]
 
 mod claiming;
@@ -8,6 +8,7 @@ mod finishing;
 mod keeper;
 mod log;
 mod losing;
+mod numbering;
 mod ordering;
 mod placing;
 mod preparing;
@@ -17,3 +18,10 @@ mod settling;
 mod starting;
 mod trimming;
 mod wanting;
+
+pub use facts::{end_law, lawful_law, next_law};
+pub use keeper::Core;
+pub use log::Log;
+pub use settling::{Leaves, Settling};
+pub use trimming::{behind_head_law, unreached_law};
+pub use wanting::wanted_law;

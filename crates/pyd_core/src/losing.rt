@@ -1,5 +1,5 @@
 //! Losses that are due.
-ghost use Rattle.std.specs.Prelude.{◌≡◌, suc, drop, None, All};
+ghost use Rattle.std.specs.Prelude.{◌≡◌, ℕ, suc, drop, None, Some, All};
 ghost use Rattle.pyd_board.specs.declared.event.Act.TheVariants.{Lose};
 ghost use Rattle.pyd_runs.specs.Enabled.{CanLose, IsLoss, IsUnbarred, due};
 ghost use Rattle.pyd_runs.specs.Losses as runs;
@@ -14,16 +14,19 @@ use pyd_board::{Act, Loss};
 use pyd_runs::{beginning_law, desk_law, journal_law, only_due_law, run_law, step_law};
 
 impl Core {
-    /// All losses that are due come, one after another, by a seat. Takes no memory.
-    pub(crate) fn lose_due(&mut self, seat: u32)
+    /// All losses that are due come, one after another, by a seat: the driver where losses alone stand
+    /// before the first of them. Takes no memory.
+    pub fn lose_due(&mut self, seat: u32)
         requires core { IsCore self.old }
         requires seat { IsSeat (plan_of self.old) seat }
-        requires driver { All (λ e. IsLoss e.act) self.old.log.journal.items → seat ≡ 0 }
+        requires driver { (state_of self.old).graph.end ≡ None
+            → (machine : ℕ) → due (state_of self.old) ≡ Some machine
+            → All (λ e. IsLoss e.act) self.old.log.journal.items → seat ≡ 0 }
         ensures losses { ComesBy self.old self.new (losses_by seat (state_of self.old)) }
         ensures none_due { IsUnbarred (state_of self.new) }
         ensures room { KeepsRoom self.old self.new }
     {
-        if self.has_ended() {
+        if self.has_ended() || self.due_machine().is_none() {
             return;
         }
         self.lose_all(seat);
@@ -50,7 +53,7 @@ impl Core {
     }
 
     /// The machine whose loss is due.
-    fn due_machine(&self) -> Option<u32>
+    pub fn due_machine(&self) -> Option<u32>
         requires { IsCore self.now }
         ensures { result ≡ due (state_of self.now) }
     {
@@ -62,8 +65,8 @@ impl Core {
         )
     }
 
-    /// The loss of a machine comes, by a seat.
-    fn lose(&mut self, seat: u32, machine: u32)
+    /// The loss of a machine comes, by a seat. Takes no memory.
+    pub fn lose(&mut self, seat: u32, machine: u32)
         requires core { IsCore self.old }
         requires seat { IsSeat (plan_of self.old) seat }
         requires can { CanLose (state_of self.old) seat machine }

@@ -16,7 +16,7 @@ use std::alloc::Global;
 impl Core {
     /// The number of the node that is due: of the first past one that the head waits for, else of the
     /// head.
-    pub(crate) fn node_due(&self) -> Result<u64, NoMemory>
+    pub fn node_due(&self) -> Result<u64, NoMemory>
         requires core { IsCore self.now }
         requires goes_on { (state_of self.now).graph.end ≡ None }
         ensures { IfOk result (λ number. spec.IsNumberDue (state_of self.now) number) }

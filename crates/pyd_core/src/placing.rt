@@ -22,7 +22,7 @@ use std::alloc::Global;
 
 impl Core {
     /// A seat places a node that may be placed, for its next attempt. Takes no memory.
-    pub(crate) fn place(&mut self, seat: u32, node: u64, machine: u32) -> Ticket
+    pub fn place(&mut self, seat: u32, node: u64, machine: u32) -> Ticket
         requires core { IsCore self.old }
         requires room { HasRoom 1 self.old }
         requires seat { IsSeat (plan_of self.old) seat }
@@ -54,7 +54,7 @@ impl Core {
     }
 
     /// The numbers of all nodes that may be placed, rising.
-    pub(crate) fn placeable(&self, alloc: Global) -> Result<Vec<u64>, NoMemory>
+    pub fn placeable(&self, alloc: Global) -> Result<Vec<u64>, NoMemory>
         requires { IsCore self.now }
         ensures rising { IfOk result (λ numbers. IsStrictlyIncreasing numbers.items) }
         ensures all { IfOk result (λ numbers. (k : ℕ)

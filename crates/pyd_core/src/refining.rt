@@ -30,7 +30,7 @@ use std::alloc::Global;
 
 impl Core {
     /// The place in the chain of the first composite that may be refined. Takes no memory.
-    pub(crate) fn first_refinable(&self) -> Option<usize>
+    pub fn first_refinable(&self) -> Option<usize>
         requires { IsCore self.now }
         ensures { MatchOption result (NoneRefinable self.now) (IsFirstRefinable self.now) }
     {
@@ -40,7 +40,7 @@ impl Core {
     }
 
     /// A seat refines the composite at a place of the chain. Where there is no memory only room changes.
-    pub(crate) fn refine(&mut self, seat: u32, at: usize) -> Result<(), NoMemory>
+    pub fn refine(&mut self, seat: u32, at: usize) -> Result<(), NoMemory>
         requires core { IsCore self.old }
         requires quiet { IsQuiet (state_of self.old) }
         requires seat { IsSeat (plan_of self.old) seat }

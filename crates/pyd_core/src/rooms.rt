@@ -8,7 +8,7 @@ use pyd_value::NoMemory;
 
 impl Core {
     /// Makes room for so many entries beside all losses to come. Only room changes.
-    pub(crate) fn make_room(&mut self, entries: usize) -> Result<(), NoMemory>
+    pub fn make_room(&mut self, entries: usize) -> Result<(), NoMemory>
         requires core { IsCore self.old }
         ensures room { OnOk result (HasRoom entries self.new) }
         ensures stays { Stays self.old self.new }

@@ -19,7 +19,7 @@ use pyd_value::{Boxed, End, List, NoMemory, Text};
 
 /// What a node leaves behind.
 #[derive(Drop)]
-pub(crate) enum Leaves {
+pub enum Leaves {
     /// It gave a value, and the driver keeps this of it.
     Passed(Option<Boxed<Ran>>),
     /// The run ends so.
@@ -28,14 +28,14 @@ pub(crate) enum Leaves {
 
 /// The lines that go out as the head is settled, and what it leaves.
 #[derive(Drop)]
-pub(crate) struct Settling {
-    pub(crate) lines: List<Text>,
-    pub(crate) leaves: Leaves,
+pub struct Settling {
+    pub lines: List<Text>,
+    pub leaves: Leaves,
 }
 
 impl Core {
     /// What settles the head; none where no node may be settled.
-    pub(crate) fn prepare(&self) -> Result<Option<Settling>, NoMemory>
+    pub fn prepare(&self) -> Result<Option<Settling>, NoMemory>
         requires core { IsCore self.now }
         requires goes_on { (state_of self.now).graph.end ≡ None }
         ensures { IfOk result (λ found. MatchOption found
@@ -48,7 +48,7 @@ impl Core {
     }
 
     /// A seat settles the head, for which there is an entry's room. Takes no memory.
-    pub(crate) fn settle(&mut self, seat: u32, settling: Settling)
+    pub fn settle(&mut self, seat: u32, settling: Settling)
         requires core { IsCore self.old }
         requires quiet { IsQuiet (state_of self.old) }
         requires seat { IsSeat (plan_of self.old) seat }

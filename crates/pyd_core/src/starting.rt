@@ -6,7 +6,7 @@ ghost use Rattle.pyd_core.specs.Cores.{IsCore, IsFew, plan_of};
 ghost use Rattle.pyd_core.specs.Log.{IsCounted};
 ghost use Rattle.pyd_core.specs.Starting.{HasFirst};
 
-use crate::keeper::{Core, Parts};
+use crate::keeper::Core;
 use crate::log::Log;
 use pyd_board::Setup;
 use pyd_desk::{Desk, Line};
@@ -18,7 +18,7 @@ use std::alloc::Global;
 
 impl Core {
     /// The nodes of a script, none of which is settled, with no event and room for all losses.
-    pub(crate) fn start(alloc: Global, program: Program, setup: Setup) -> Result<Core, NoMemory>
+    pub fn start(alloc: Global, program: Program, setup: Setup) -> Result<Core, NoMemory>
         requires runnable { IsRunnable (record { file = program.file; setup = setup }) }
         requires few { IsFew setup }
         ensures core { IfOk result (λ core. IsCore core) }
@@ -28,7 +28,7 @@ impl Core {
     {
         block_order_law();
         match first_parts(alloc, &program, &setup) {
-            Ok(Parts { line, desk, log }) => {
+            Ok(FirstParts { line, desk, log }) => {
                 let end = end_of(line.nodes.as_slice());
                 Ok(Core {
                     alloc,
@@ -50,29 +50,23 @@ impl Core {
     }
 }
 
+/// What a core keeps of nodes, of machines and of events, before any event.
+#[derive(Drop)]
+struct FirstParts {
+    line: Line,
+    desk: Desk,
+    log: Log,
+}
+
 /// The parts of a core before any event.
-fn first_parts(alloc: Global, program: &Program, setup: &Setup) -> Result<Parts, NoMemory>
+fn first_parts(alloc: Global, program: &Program, setup: &Setup) -> Result<FirstParts, NoMemory>
     requires { IsFew setup.now }
     ensures { IfOk result (λ parts. HasFirst program.now setup.now parts) }
 {
     let log = Log::start(alloc, seat_count(setup), setup.losses.len())?;
     let line = Line::start(alloc, program)?;
     let desk = Desk::start(alloc, line.nodes.as_slice(), setup.machines as usize)?;
-    Ok(Parts { line, desk, log })
-}
-
-impl Log {
-    /// A journal without entries, by so many seats, with room for so many.
-    fn start(alloc: Global, seats: usize, entries: usize) -> Result<Log, NoMemory>
-        ensures journal { IfOk result (λ log. log.journal.items ≡ []) }
-        ensures counted { IfOk result (λ log. IsCounted log) }
-        ensures seats { IfOk result (λ log. length log.counts.items ≡ seats) }
-        ensures room { IfOk result (λ log. entries ≤ vec_capacity log.journal) }
-    {
-        let counts = Vec::from_elem(alloc, 0, seats)?;
-        let journal = Vec::with_capacity(alloc, entries)?;
-        Ok(Log { journal, counts })
-    }
+    Ok(FirstParts { line, desk, log })
 }
 
 /// How many seats there are: the driver's and those of the workers.

@@ -24,7 +24,7 @@ use std::alloc::Global;
 
 impl Core {
     /// A seat trims a past node that the chain doesn't reach. Takes no memory.
-    pub(crate) fn trim(&mut self, seat: u32, node: u64)
+    pub fn trim(&mut self, seat: u32, node: u64)
         requires core { IsCore self.old }
         requires quiet { IsQuiet (state_of self.old) }
         requires seat { IsSeat (plan_of self.old) seat }
@@ -42,7 +42,7 @@ impl Core {
     }
 
     /// A seat trims nodes, in this order, each behind the losses due then. Takes no memory.
-    pub(crate) fn trim_all(&mut self, seat: u32, nodes: &[u64])
+    pub fn trim_all(&mut self, seat: u32, nodes: &[u64])
         requires core { IsCore self.old }
         requires seat { IsSeat (plan_of self.old) seat }
         requires driver { All (λ e. IsLoss e.act) self.old.log.journal.items → seat ≡ 0 }
@@ -82,11 +82,7 @@ impl Core {
 
     /// The numbers of the past nodes, in list order, that the chain doesn't reach once its head is
     /// settled, which stays in the past or is gone.
-    pub(crate) fn unreached_behind_head(
-        &self,
-        alloc: Global,
-        stays: bool,
-    ) -> Result<List<u64>, NoMemory>
+    pub fn unreached_behind_head(&self, alloc: Global, stays: bool) -> Result<List<u64>, NoMemory>
         requires core { IsCore self.now }
         requires goes_on { (state_of self.now).graph.end ≡ None }
         requires order { IsInOrder
@@ -106,14 +102,14 @@ impl Core {
 }
 
 /// Past nodes that the chain doesn't reach may be trimmed, one after the other.
-pub(crate) fn unreached_law()
+pub fn unreached_law()
     ensures { spec.UnreachedLaw }
 {
     reach_law();
 }
 
 /// The two lists of nodes stand in order behind a head that is settled with a value.
-pub(crate) fn behind_head_law()
+pub fn behind_head_law()
     ensures { spec.BehindHeadLaw }
 {
     in_order_law();

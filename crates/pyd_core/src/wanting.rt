@@ -14,7 +14,7 @@ use pyd_runs::run_law;
 
 impl Core {
     /// Whether a node may be placed that is needed, and has none of a record, a ticket and a claim.
-    pub(crate) fn may_place(&self, node: u64) -> bool
+    pub fn may_place(&self, node: u64) -> bool
         requires core { IsCore self.now }
         requires wanted { is_wanted (state_of self.now) node ≡ true }
         ensures { result ≡ runs.may_place (state_of self.now) node }
@@ -40,6 +40,6 @@ fn is_ready(desk: &Desk, node: Option<&Node>, chain: &[Node]) -> bool
 }
 
 /// A node that is needed and free before losses is so behind them.
-pub(crate) fn wanted_law()
+pub fn wanted_law()
     ensures { WantedLaw }
 {}

@@ -2,7 +2,7 @@ use Rattle.pyd_core.proofs.Lawfulness.{lawful}
 use Rattle.pyd_core.proofs.facts.lawful_law.Goals as goal
 
 pub returns : goal.returns
-returns c run events runnable legal =
+returns c =
     lawful (record {
       bar = c.bar_law.ensures;
       desk = c.desk_law.ensures;
@@ -11,4 +11,4 @@ returns c run events runnable legal =
       run = c.run_law.ensures;
       step = c.step_law.ensures;
       ticket = c.ticket_law.ensures;
-    }) run events runnable legal
+    })
