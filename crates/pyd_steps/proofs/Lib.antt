@@ -1,0 +1,21 @@
+pub mod Alive
+mod Spared
+mod Served
+mod NextPlace
+mod Row
+mod AllPlaced
+mod InTurn
+mod Asking
+mod Asked
+mod Results
+mod Joined
+mod FirstLosses
+mod Comings
+mod Printless
+mod Refined
+mod Stepped
+mod StepAsked
+mod LineBytes
+mod HeadLines
+mod LastTrims
+mod SettledHeads

@@ -1,0 +1,10 @@
+pub mod Sinks
+pub mod Losses
+pub mod Claiming
+pub mod Finishing
+pub mod Settling
+pub mod Machines
+pub mod Placers
+pub mod Placing
+pub mod Refining
+pub mod Stepping
