@@ -1,0 +1,14 @@
+mod Goings
+mod Dues
+mod Takings
+mod Movings
+mod Held
+mod Endings
+mod Puttings
+mod Alike
+mod Kept
+mod Claimings
+mod Firsts
+mod Moved
+mod Steppings
+mod Within
