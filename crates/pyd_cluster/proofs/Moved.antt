@@ -1,11 +1,10 @@
 -- What always holds of a cluster still does behind a step.
-use Rattle.std.proofs.Common.{◌≡◌, ◌+◌, ◌≤◌, ℕ, List, [], ◌∷◌, ◌++◌, append_assoc, append-nil, length, length-append, Bool, true, false, ◌||◌, Option, Some, None, is_some, Result, Ok, Err, IfOk, OnErr, refl, ap, sym, subst, ◌∙◌, arith}
+use Rattle.std.proofs.Common.{◌≡◌, ◌+◌, ◌≤◌, ℕ, List, [], ◌∷◌, ◌++◌, append_assoc, append-nil, length, length-append, Bool, true, false, ◌||◌, Option, Some, None, is_some, Result, Ok, Err, refl, ap, sym, subst, ◌∙◌, arith}
 use Rattle.std.specs.List.{All}
 use Rattle.std.proofs.lemmas.List.Elements.{All-nil, All-append}
 use Rattle.pyd_value.specs.declared.fault.End.{End}
 use Rattle.pyd_value.specs.declared.fault.Fault.{Fault}
 use Rattle.pyd_value.specs.declared.value.Value.{Value}
-use Rattle.pyd_value.specs.declared.memory.NoMemory.{NoMemory}
 use Rattle.pyd_board.specs.declared.event.Act.TheVariants.{Settle}
 use Rattle.pyd_board.specs.declared.event.Event.{Event}
 use Rattle.pyd_board.specs.declared.history.Halt.{Halt}
@@ -21,7 +20,7 @@ use Rattle.pyd_ir.specs.Inputs.{leaf_meaning}
 use Rattle.pyd_meaning.specs.Evaluation.{Evaluation}
 use Rattle.pyd_meaning.specs.Module.{bytes_of}
 use Rattle.pyd_runs.specs.Effects.{State, acted, happens, passed, settled, settled_as, settled_by, settled_chain}
-use Rattle.pyd_runs.specs.Enabled.{CanSettle, Enabled, IsUnbarred}
+use Rattle.pyd_runs.specs.Enabled.{CanSettle, Enabled}
 use Rattle.pyd_runs.specs.Facts.{IsAlike, IsDeskAct}
 use Rattle.pyd_runs.specs.Graphs.{Graph}
 use Rattle.pyd_runs.specs.Plans.{Plan, limits_of, meaning}
@@ -29,19 +28,17 @@ use Rattle.pyd_runs.specs.Replay.{IsLegal, replay}
 use Rattle.pyd_runs.proofs.Beginnings.{goes_behind, journal_whole, steps_on}
 use Rattle.pyd_runs.proofs.Going.{seat_there}
 use Rattle.pyd_runs.proofs.Running.{prefix_keeps}
-use Rattle.pyd_source.specs.Content.{Exceeds}
 use Rattle.pyd_core.specs.declared.keeper.Core.{Core}
 use Rattle.pyd_core.specs.Cores.{IsCore, plan_of, state_of}
 use Rattle.pyd_core.specs.Steps.{ComesBy}
 use Rattle.pyd_steps.specs.declared.told.Told.{Told}
 use Rattle.pyd_steps.specs.Losses.{events_behind, losses_first}
 use Rattle.pyd_steps.specs.Settling.{head_lines, lines_at, lines_of}
-use Rattle.pyd_steps.specs.Sinks.{Puts, PutsPart}
+use Rattle.pyd_steps.specs.Sinks.{Puts}
 use Rattle.pyd_steps.specs.Stepping as steps
 use Rattle.pyd_steps.specs.Stepping.{Steps}
 use Rattle.pyd_cluster.specs.Keeping.{HasFailed, IsKept, fault_by, halt_by, known_by}
 use Rattle.pyd_cluster.proofs.Alike.{head_alike}
-use Rattle.pyd_cluster.proofs.Claimings.{losses_stay}
 use Rattle.pyd_cluster.proofs.Dues.{unbarred_behind}
 use Rattle.pyd_cluster.proofs.Goings.{legal_behind}
 use Rattle.pyd_cluster.proofs.Kept.{alike_behind, begun_more, halts_by, holds_alike, known_comes, losses_are, stays_kept}

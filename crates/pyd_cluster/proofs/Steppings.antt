@@ -1,8 +1,7 @@
 -- What a step answers, and the numbers of its tickets.
-use Rattle.std.proofs.Common.{◌≡◌, ◌<◌, ◌^◌, ◌⊎◌, inl, inr, ℕ, List, [], ◌∷◌, ◌++◌, append_assoc, Bool, Option, Some, is_some, Result, Ok, Err, OnErr, refl, ap, sym, subst, ◌∙◌, arith}
+use Rattle.std.proofs.Common.{◌≡◌, ◌<◌, ◌^◌, ◌⊎◌, inl, inr, ℕ, List, ◌++◌, append_assoc, Bool, Option, Some, is_some, Result, Ok, Err, OnErr, refl, ap, sym, subst, ◌∙◌, arith}
 use Rattle.std.specs.List.{All}
 use Rattle.std.proofs.lemmas.List.Elements.{All-nil, All-weaker}
-use Rattle.pyd_value.specs.declared.memory.NoMemory.{NoMemory}
 use Rattle.pyd_board.specs.declared.event.Act.{Act}
 use Rattle.pyd_board.specs.declared.event.Act.TheVariants.{Place, Claim, Finish, Drop, Refine, Settle, Lose, Trim}
 use Rattle.pyd_board.specs.declared.event.Event.{Event}
@@ -23,7 +22,6 @@ use Rattle.pyd_core.specs.Cores.{IsCore, plan_of, state_of}
 use Rattle.pyd_core.specs.Facts.{NextLaw, facts_of, may_come}
 use Rattle.pyd_steps.specs.declared.told.Told.{Told}
 use Rattle.pyd_steps.specs.Losses.{events_behind, losses_first}
-use Rattle.pyd_steps.specs.Stepping as steps
 use Rattle.pyd_steps.specs.Stepping.{Steps}
 use Rattle.pyd_cluster.specs.Keeping.{fault_by, faults_of, halt_by}
 use Rattle.pyd_cluster.proofs.Goings.{goes_on_by, legal_behind, told}

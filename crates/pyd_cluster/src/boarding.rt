@@ -24,20 +24,14 @@ impl<K: Sink + Drop> Board for Cluster<K> {
     ghost is_single = { true };
 
     fn claim(&mut self, ticket: Ticket, who: Who) -> Result<Claimed<Job>, (Ticket, NoMemory)> {
-        let before = self.keeper.events();
-        let claimed = self.keeper.claim(ticket, who);
-        self.keeper.tell(&mut self.placer, before);
-        match claimed {
+        match self.keeper.claim(&mut self.placer, ticket, who) {
             Ok(claimed) => Ok(claimed),
             Err(no_memory) => Err((ticket, no_memory)),
         }
     }
 
     fn finish(&mut self, done: Done, who: Who) -> Result<Finished, (Done, NoMemory)> {
-        let before = self.keeper.events();
-        let finished = self.keeper.finish(&done, who);
-        self.keeper.tell(&mut self.placer, before);
-        match finished {
+        match self.keeper.finish(&mut self.placer, &done, who) {
             Ok(finished) => {
                 drop(done);
                 Ok(finished)
@@ -51,9 +45,7 @@ impl<K: Sink + Drop> Board for Cluster<K> {
     }
 
     fn lose_due(&mut self, who: Who) {
-        let before = self.keeper.events();
-        self.keeper.lose_due(who);
-        self.keeper.tell(&mut self.placer, before);
+        self.keeper.lose_due(&mut self.placer, who);
     }
 
     fn stop(&mut self, why: Halt) {

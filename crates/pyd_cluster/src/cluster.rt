@@ -13,7 +13,7 @@ use pyd_board::{Event, Halt, Kept, Placer, Setup};
 use pyd_core::Core;
 use pyd_scope::Program;
 use pyd_source::Sink;
-use pyd_steps::tell;
+use pyd_steps::lose_due;
 use pyd_value::{End, NoMemory};
 use std::alloc::Global;
 
@@ -102,8 +102,7 @@ impl<K: Sink + Drop> Cluster<K> {
     {
         let mut core = core;
         let mut placer = placer;
-        core.lose_due(0);
-        tell(&mut placer, core.log.journal.as_slice());
+        lose_due(&mut core, &mut placer, 0);
         Cluster {
             keeper: Keeper::start(core, sink),
             placer,

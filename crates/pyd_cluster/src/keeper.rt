@@ -1,5 +1,5 @@
 //! A run as far as it has come, and the sink of its lines.
-ghost use Rattle.std.specs.Prelude.{◌≡◌, ◌≤◌, ◌⊎◌, ℕ, Contains, IfOk, OnErr, Some, None, true, false, length, map, slice_get};
+ghost use Rattle.std.specs.Prelude.{◌≡◌, ◌≤◌, ◌⊎◌, ℕ, Contains, IfOk, OnErr, Some, None, true, false, length, map, option_map, slice_get};
 ghost use Rattle.pyd_board.specs.declared.history.Halt.TheVariants.{SinkFault};
 ghost use Rattle.pyd_board.specs.Serving.{Serves, basis_of};
 ghost use Rattle.pyd_boards.specs.Boards.{HoldsJob, IsSeatIn};
@@ -10,6 +10,7 @@ ghost use Rattle.pyd_core.specs.Facts.{facts_by, may_come_by};
 ghost use Rattle.pyd_core.specs.Losing.{losses_by};
 ghost use Rattle.pyd_ir.specs.Meaning.{TaskFits};
 ghost use Rattle.pyd_runs.specs.Effects.{first_state};
+ghost use Rattle.pyd_steps.specs.Placers.{AsksOver};
 ghost use Rattle.pyd_steps.specs.Sinks.{told_by};
 ghost use Rattle.pyd_cluster.specs.Keeping as spec;
 
@@ -23,7 +24,6 @@ use pyd_runs::{
     beginning_law, callee_law, journal_law, loss_law, number_law, silent_law, since_law,
 };
 use pyd_source::Sink;
-use pyd_steps::tell;
 use pyd_value::{End, NoMemory};
 use std::marker::Model;
 use std::snapshot::Snapshot;
@@ -80,7 +80,12 @@ impl<K: Sink + Drop> Keeper<K> {
     }
 
     /// Claims a ticket for a seat, behind the losses that are due.
-    pub(crate) fn claim(&mut self, ticket: Ticket, who: Who) -> Result<Claimed<Job>, NoMemory>
+    pub(crate) fn claim(
+        &mut self,
+        placer: &mut Option<Box<dyn Placer + Send>>,
+        ticket: Ticket,
+        who: Who,
+    ) -> Result<Claimed<Job>, NoMemory>
         requires who { IsSeatIn self.old.run.setup who }
         ensures run { self.new.run ≡ self.old.run }
         ensures opening { self.new.opening ≡ self.old.opening }
@@ -96,16 +101,24 @@ impl<K: Sink + Drop> Keeper<K> {
             (spec.name_of self.old) self.new.history }
         ensures memory { OnErr result (call.LosesIn (facts_by (spec.name_of self.old))
             (may_come_by (spec.name_of self.old)) 0 self.old.history self.new.history) }
+        ensures asks { AsksOver (spec.plan_of self.old) self.old.history.events
+            self.new.history.events
+            (option_map (λ b. calls b) placer.old) (option_map (λ b. calls b) placer.new) }
     {
         callee_law();
         silent_law();
         beginning_law();
         next_law();
-        pyd_steps::claim(&mut self.core, self.halt.is_some(), ticket, who)
+        pyd_steps::claim(&mut self.core, placer, self.halt.is_some(), ticket, who)
     }
 
     /// Takes what was done of a job that a seat holds, behind the losses that are due.
-    pub(crate) fn finish(&mut self, done: &Done, who: Who) -> Result<Finished, NoMemory>
+    pub(crate) fn finish(
+        &mut self,
+        placer: &mut Option<Box<dyn Placer + Send>>,
+        done: &Done,
+        who: Who,
+    ) -> Result<Finished, NoMemory>
         requires who { IsSeatIn self.old.run.setup who }
         requires held { HoldsJob (facts_by (spec.name_of self.old)) who done.now.job
             self.old.history.events }
@@ -128,12 +141,15 @@ impl<K: Sink + Drop> Keeper<K> {
             (spec.name_of self.old) self.new.history }
         ensures memory { OnErr result (call.LosesIn (facts_by (spec.name_of self.old))
             (may_come_by (spec.name_of self.old)) 0 self.old.history self.new.history) }
+        ensures asks { AsksOver (spec.plan_of self.old) self.old.history.events
+            self.new.history.events
+            (option_map (λ b. calls b) placer.old) (option_map (λ b. calls b) placer.new) }
     {
         beginning_law();
         since_law();
         next_law();
         lawful_law();
-        pyd_steps::finish(&mut self.core, done, who)
+        pyd_steps::finish(&mut self.core, placer, done, who)
     }
 
     /// Does the first of three things that may be done, behind the losses that are due. A fault of the
@@ -157,6 +173,9 @@ impl<K: Sink + Drop> Keeper<K> {
         ensures memory { OnErr result (moves.LosesFirst (facts_by (spec.name_of self.old))
             (may_come_by (spec.name_of self.old)) true self.old.history self.new.history) }
         ensures same { OnErr result (self.new.sink ≡ self.old.sink) }
+        ensures asks { AsksOver (spec.plan_of self.old) self.old.history.events
+            self.new.history.events
+            (option_map (λ b. calls b) placer.old) (option_map (λ b. calls b) placer.new) }
     {
         beginning_law();
         journal_law();
@@ -171,7 +190,7 @@ impl<K: Sink + Drop> Keeper<K> {
     }
 
     /// A seat appends the losses that are due.
-    pub(crate) fn lose_due(&mut self, who: Who)
+    pub(crate) fn lose_due(&mut self, placer: &mut Option<Box<dyn Placer + Send>>, who: Who)
         requires who { IsSeatIn self.old.run.setup who ⊎ (who.seat ≡ 0) }
         ensures run { self.new.run ≡ self.old.run }
         ensures opening { self.new.opening ≡ self.old.opening }
@@ -182,10 +201,13 @@ impl<K: Sink + Drop> Keeper<K> {
             (may_come_by (spec.name_of self.old)) self.old.history self.new.history }
         ensures over { call.IsConcluded (facts_by (spec.name_of self.old))
             (spec.name_of self.old) self.new.history }
+        ensures asks { AsksOver (spec.plan_of self.old) self.old.history.events
+            self.new.history.events
+            (option_map (λ b. calls b) placer.old) (option_map (λ b. calls b) placer.new) }
     {
         beginning_law();
         next_law();
-        self.core.lose_due(who.seat);
+        pyd_steps::lose_due(&mut self.core, placer, who.seat);
     }
 
     /// Halts; the first cause stays.
@@ -226,13 +248,6 @@ impl<K: Sink + Drop> Keeper<K> {
             self.now.history.events 0 machine }
     {
         self.core.is_lost(machine)
-    }
-
-    /// Tells a placer of the entries from a place on.
-    pub(crate) fn tell(&self, placer: &mut Option<Box<dyn Placer + Send>>, from: u64)
-        requires { from ≤ length self.now.history.events }
-    {
-        tell(placer, &self.core.log.journal[from as usize..]);
     }
 
     /// The run and the sink, apart.

@@ -19,3 +19,4 @@ mod LineBytes
 mod HeadLines
 mod LastTrims
 mod SettledHeads
+mod ClaimAsked

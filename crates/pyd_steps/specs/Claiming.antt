@@ -10,7 +10,7 @@ use Rattle.pyd_runs.specs.Effects.{State}
 use Rattle.pyd_runs.specs.Replay.{replay}
 use Rattle.pyd_core.specs.declared.keeper.Core.{Core}
 use Rattle.pyd_core.specs.Claiming.{live_job}
-use Rattle.pyd_core.specs.Cores.{plan_of}
+use Rattle.pyd_core.specs.Cores.{plan_of, state_of}
 use Rattle.pyd_core.specs.Steps.{ComesBy}
 use Rattle.pyd_steps.specs.Losses.{events_behind, losses_first}
 
@@ -24,6 +24,12 @@ answer_in halted s ticket who =
     if is_over halted s then claimed.Over else
     if s.lost who.machine then claimed.Lost ticket else
     claimed_job (live_job s ticket.node ticket.attempt)
+
+-- where no loss is due a claim appends its own entry alone
+pub record ClaimsNow (halted : Bool) (old new : Core) (ticket : Ticket) (who : Who)
+    (answer : Claimed Job) : Type 0 where
+  pub answers : answer ≡ answer_in halted (state_of old) ticket who
+  pub comes : ComesBy old new (claim_entries answer ticket who old.log.journal.items)
 
 -- a claim appends the losses that are due, and then its own entry
 pub record Claims (halted : Bool) (old new : Core) (ticket : Ticket) (who : Who)

@@ -3,6 +3,7 @@
 
 mod claiming;
 mod finishing;
+mod losing;
 mod machines;
 mod placers;
 mod placing;
@@ -13,6 +14,7 @@ mod told;
 
 pub use claiming::claim;
 pub use finishing::finish;
+pub use losing::lose_due;
 pub use machines::{home, live_around};
 pub use placers::{choose, tell};
 pub use placing::place_all;

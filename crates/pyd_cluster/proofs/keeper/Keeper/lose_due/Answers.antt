@@ -10,21 +10,21 @@ use Rattle.pyd_cluster.proofs.Goings.{told}
 use Rattle.pyd_cluster.proofs.Movings.{loses_all}
 use Rattle.pyd_cluster.proofs.keeper.Keeper.lose_due.Goals as goal
 
-pub lose_due-requires-clause-driver : goal.lose_due-requires-clause-driver
-lose_due-requires-clause-driver g c =
+pub lose_due-requires-clause-losses : goal.lose_due-requires-clause-losses
+lose_due-requires-clause-losses g c =
     let kept = c.self.invariant.1 in may_lose _ _ kept.legal kept.begun c.args.who.seat
 
 pub invariant_of-self : goal.invariant_of-self
 invariant_of-self g c =
     let i = c.self.inside in
     let is = c.self.invariant in
-    losses_stay i.core c.lose_due.new.self is.0 i.fault i.halt _ _ is.1 c.args.who.seat
+    losses_stay i.core c.lose_due.new.core is.0 i.fault i.halt _ _ is.1 c.args.who.seat
     c.lose_due.ensures.losses
 
 pub returns-clause-goes_on : goal.returns-clause-goes_on
 returns-clause-goes_on g c =
     let i = c.self.inside in
-    let d = c.lose_due.new.self in
+    let d = c.lose_due.new.core in
     let is = c.self.invariant in
     subst (λ (k : Known). call.GoesOnBy (may_come_by (name_of k)) c.args.who.seat k.history
     (told d (faults_of i.fault) i.halt)) c.self.view_is
@@ -34,7 +34,7 @@ returns-clause-goes_on g c =
 pub returns-clause-losses : goal.returns-clause-losses
 returns-clause-losses g c =
     let i = c.self.inside in
-    let d = c.lose_due.new.self in
+    let d = c.lose_due.new.core in
     subst (λ (k : Known). LosesAll (facts_by (name_of k)) (may_come_by (name_of k)) k.history
     (told d (faults_of i.fault) i.halt)) c.self.view_is
     (loses_all c.beginning_law.ensures i.core d c.args.who.seat c.lose_due.ensures.losses
