@@ -39,6 +39,7 @@ first_kept c sink core begins =
               (puts_none sink);
           not_halted_by_it = λ is. cc (is);
         };
+        goes_on = λ is. absurd (cc (is));
       },
     )
 

@@ -85,6 +85,7 @@ kept_more fault k es kept legal acts = record {
   sink = holds_alike fault (plan_of k) k.opening k.sink k.history.halted (state_of k).graph
       (replay (plan_of k) (k.history.events ++ es)).graph
       (alike_behind (plan_of k) k.history.events es acts) kept.sink;
+  goes_on = λ is. (alike_behind (plan_of k) k.history.events es acts).end ∙ kept.goes_on is;
 }
 
 -- a fault that is kept halts
@@ -95,7 +96,7 @@ halts_by true k kept is = by_failed kept.sink
   where
     by_failed : HasFailed (plan_of k) k.opening k.sink k.history.halted (lines_out k)
         (lines_next k) → is_some k.history.halted ≡ true
-    by_failed failed = failed.halted
+    by_failed failed = ap is_some failed.halted
 
 module _ (c d : Core) (fault : Bool) (halt : Option Halt) (opening sink : Told)
     (kept : IsKept fault (known_by c fault halt opening sink)) where

@@ -153,14 +153,15 @@ module _ (c d : Core) (core : IsCore c) (halt : Option Halt) (who : Who)
               does.puts);
           not_halted_by_it = kept.sink.not_halted_by_it;
         };
+        goes_on = λ is. absurd (cc (is));
       })
 
-  -- a head that may be settled has lines of the script
-  head_fits : (own : List Event) → ComesBy c d (losses ++ own) → (number : ℕ)
+  -- what was put out and the lines of a head that may be settled begin the script's
+  head_begins : (own : List Event) → ComesBy c d (losses ++ own) → (number : ℕ)
       → (replay p es).graph.end ≡ None → CanSettle (replay p es) number
-      → length (bytes_of out) + length (bytes_of (head_lines p (replay p es).graph))
-      ≤ length (bytes_of (meaning p).lines)
-  head_fits own come number on can =
+      → (more : List (List ℕ))
+      × (out ++ (head_lines p (replay p es).graph ++ more) ≡ (meaning p).lines)
+  head_begins own come number on can =
       let e : Event = entry es who.seat (Settle number) in
       let legal : IsLegal p es
       = (goes_behind p es own).beginning
@@ -183,9 +184,22 @@ module _ (c d : Core) (core : IsCore c) (halt : Option Halt) (who : Who)
       let out_is : (replay p (es ++ e ∷ [])).graph.out
       ≡ out ++ head_lines p (replay p es).graph
       = ap (λ (s : State). s.graph.out) step.state ∙ settle_out p (replay p es) e number refl
-      ∙ ap (λ lines. lines ++ head_lines p (replay p es).graph) alike.out in
-      lines_fit out (head_lines p (replay p es).graph) prefix.0 (meaning p).lines
-      (ap (λ lines. lines ++ prefix.0) (sym out_is) ∙ prefix.1)
+      ∙ ap (λ lines. lines ++ head_lines p (replay p es).graph) alike.out in (
+        prefix.0,
+        sym (append_assoc out (head_lines p (replay p es).graph) prefix.0)
+            ∙ ap (λ lines. lines ++ prefix.0) (sym out_is) ∙ prefix.1,
+      )
+
+  -- so it has lines of the script
+  head_fits : (own : List Event) → ComesBy c d (losses ++ own) → (number : ℕ)
+      → (replay p es).graph.end ≡ None → CanSettle (replay p es) number
+      → length (bytes_of out) + length (bytes_of (head_lines p (replay p es).graph))
+      ≤ length (bytes_of (meaning p).lines)
+  head_fits own come number on can =
+      let head = head_lines p (replay p es).graph in
+      let first = head_begins own come number on can in
+      lines_fit out head first.0 (meaning p).lines
+      (append_assoc out head first.0 ∙ first.1)
 
   -- where the sink failed
   failed : IsKept false (known_by c false halt opening old) → (own : List Event)
@@ -195,7 +209,11 @@ module _ (c d : Core) (core : IsCore c) (halt : Option Halt) (who : Who)
   failed kept own come on fails =
       let puts = kept.sink.puts in
       let part = fails.part in
+      let first = head_begins own come fails.number on fails.can in
       record {
+        more = first.0;
+        begins = ap (λ lines. out ++ (lines ++ first.0))
+            (sym (head_alike p (state_of c).graph (replay p es).graph alike)) ∙ first.1;
         part = part.held.gone;
         rest = part.held.rest;
         of_head = part.held.whole
@@ -229,6 +247,8 @@ module _ (c d : Core) (core : IsCore c) (halt : Option Halt) (who : Who)
             (replay p (c.log.journal.items ++ (losses ++ own))).graph
             (alike_behind p c.log.journal.items (losses ++ own) (all_acts own fails.none))
             (failed kept own come on fails);
+        goes_on = λ is. (alike_behind p c.log.journal.items (losses ++ own)
+            (all_acts own fails.none)).end ∙ sym alike.end ∙ on;
       })
 
   -- by what it answers

@@ -1,5 +1,5 @@
 -- What is known of a cluster, and what always holds of it.
-use Rattle.std.specs.Prelude.{◌≡◌, ◌≤◌, ◌++◌, ◌∷◌, [], ℕ, List, Bool, true, false, Option, Some, is_some, cond, length}
+use Rattle.std.specs.Prelude.{◌≡◌, ◌≤◌, ◌++◌, ◌∷◌, [], ℕ, List, Bool, true, false, Option, Some, cond, length, None}
 use Rattle.pyd_board.specs.declared.event.Event.{Event}
 use Rattle.pyd_board.specs.declared.history.Halt.{Halt}
 use Rattle.pyd_board.specs.declared.history.Halt.TheVariants.{SinkFault}
@@ -73,19 +73,22 @@ pub record HasPut (opening sink : Told) (halt : Option Halt) (out : List (List �
   pub puts : Puts opening (bytes_of out) sink
   pub not_halted_by_it : halt ≡ Some SinkFault → ⊥
 
--- a fault of the sink is kept, which halts: it holds besides a part of the bytes of the head's lines, from the first on
+-- a fault of the sink is kept, and halts: it holds besides a part of the bytes of the head's lines, from the first on
 pub record HasFailed (p : Plan) (opening sink : Told) (halt : Option Halt)
     (out head : List (List ℕ)) : Type 0 where
   pub part : List ℕ
   pub rest : List ℕ
   pub of_head : part ++ rest ≡ bytes_of head
+  -- what was put out and the head's lines begin the script's
+  pub more : List (List ℕ)
+  pub begins : out ++ (head ++ more) ≡ (meaning p).lines
   pub held : Added opening.held (bytes_of out ++ part) sink.held
   pub full : Exceeds (length (bytes_of (meaning p).lines)) opening.room
   pub unsure : opening.sure ≡ false
   pub sure : sink.sure ≡ opening.sure
   pub count : opening.faults ≤ sink.faults
   pub rose : Rose opening.faults sink.faults
-  pub halted : is_some halt ≡ true
+  pub halted : halt ≡ Some SinkFault
 
 -- what the sink holds, by whether a fault of it is kept, the lines that were put out, and the head's
 abbrev pub SinkHolds : Bool → Plan → Told → Told → Option Halt → List (List ℕ)
@@ -102,6 +105,8 @@ pub record IsKept (fault : Bool) (k : Known) : Type 0 where
   pub opening : k.run.opening ≡ k.opening.held
   pub sink : SinkHolds fault (plan_of k) k.opening k.sink k.history.halted (lines_out k)
       (lines_next k)
+  -- where a fault of the sink is kept, the run hasn't ended
+  pub goes_on : fault ≡ true → (state_of k).graph.end ≡ None
 
 -- some fault is kept or none, and the same holds
 pub record IsCluster (k : Known) : Type 0 where
