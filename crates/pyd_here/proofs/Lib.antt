@@ -1,0 +1,12 @@
+mod Holds
+mod Keeps
+mod Living
+mod Losses
+mod Makes
+mod Nodes
+mod Onward
+mod Settles
+mod Sunk
+mod Taken
+mod Cut
+mod Claims
